@@ -429,7 +429,7 @@ class Source:
             self.at += 1
             self.tokens[self.at] = self.tokens[self.at]._replace(before=before)
         if self.word() == "fn" or self.begins("const fn") or EXPORT in attributes:
-            return self.function(start, attributes, is_public)
+            return self.function(begin, start, attributes, is_public)
         return self.other_item(attributes, begin)
 
     def visibility(self):
@@ -535,8 +535,8 @@ class Source:
 
     # Functions.
 
-    def function(self, start, attributes, is_public):
-        """Writes a function; its first token is the one of `out` at `start`."""
+    def function(self, begin, start, attributes, is_public):
+        """Writes a function; its first token is the one of `out` at `start`, and that of its attributes the one at `begin`."""
         documentation = self.documentation
         self.export_words(attributes)
         record = self.record(is_public)
@@ -564,6 +564,8 @@ class Source:
             record.result = result_of(header)
             self.exports.append(record)
         self.finish(start, attributes, record, header if has_body else None)
+        if record.conditions:
+            self.document(begin, ["///", "/// # Requires", "///", *(f"/// - `{clause}`" for clause, _ in record.conditions)])
 
     def record(self, is_public):
         """What is known of the function whose `const` or `fn` comes next."""
@@ -680,16 +682,12 @@ class Source:
         return None
 
     def finish(self, start, attributes, record, header):
-        """Puts in the documentation of conditions, the hint to inline, and the check of a public function."""
-        documentation = []
+        """Puts in the hint to inline, and the check of a public function."""
         before, pad, rest = LEADING.fullmatch("".join(self.out[start:])).groups()
-        if record.conditions:
-            documentation += ["///"] * ("///" in before) + ["/// # Requires", "///"]
-            documentation += [f"/// - `{clause}`" for clause, _ in record.conditions]
         own_hints = [f"#[{each}]" for each in attributes if re.match(r"inline|cold", each)]
         is_hosted = rest.startswith("rattle_c::main!") or "test" in attributes
         hints = ["#[inline]"] if header and not self.in_tests and not is_hosted and not own_hints else []
-        head = before + "".join(f"{pad}{each}\n" for each in documentation + hints) + pad
+        head = before + "".join(f"{pad}{each}\n" for each in hints) + pad
         if record.twin:
             plain = header[len(before) + len(pad) :] if header.startswith(before + pad) else header.lstrip()
             head += conditions.twin_of(plain, pad, record)

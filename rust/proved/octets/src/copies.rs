@@ -4,10 +4,11 @@ use rattle_std::{self as std, prelude::*};
 
 /// Overwrites the first `N` bytes. `copy_from_slice` would be a call if the program is built with
 /// `lto = "off"`; an array is copied without one.
-#[inline(always)]
+///
 /// # Requires
 ///
 /// - `N ≤ length to.old`
+#[inline(always)]
 fn put_first<const N: usize>(to: &mut [u8], bytes: &[u8; N]) {
     if let Some(first) = to.first_chunk_mut::<N>() {
         *first = *bytes;
@@ -15,10 +16,11 @@ fn put_first<const N: usize>(to: &mut [u8], bytes: &[u8; N]) {
 }
 
 /// Overwrites the last `N` bytes.
-#[inline(always)]
+///
 /// # Requires
 ///
 /// - `N ≤ length to.old`
+#[inline(always)]
 fn put_last<const N: usize>(to: &mut [u8], bytes: &[u8; N]) {
     if let Some(last) = to.last_chunk_mut::<N>() {
         *last = *bytes;
@@ -29,12 +31,13 @@ fn put_last<const N: usize>(to: &mut [u8], bytes: &[u8; N]) {
 /// than `2 * N` bytes. Up to 8 bytes both ranges are read before either is written, so that the
 /// bytes that they share are written once. Longer ranges are copied one after the other, so that
 /// neither is kept on the stack.
-#[inline(always)]
+///
 /// # Requires
 ///
 /// - `length to.old ≡ length from.now`
 /// - `N ≤ length from.now`
 /// - `length from.now ≤ 2 * N`
+#[inline(always)]
 fn copy_ends<const N: usize>(to: &mut [u8], from: &[u8]) {
     let (Some(first), Some(last)) = (from.first_chunk::<N>(), from.last_chunk::<N>()) else {
         return;
@@ -50,21 +53,23 @@ fn copy_ends<const N: usize>(to: &mut [u8], from: &[u8]) {
 }
 
 /// Copies without being inlined, so that its callers keep their registers.
-#[inline(never)]
+///
 /// # Requires
 ///
 /// - `length to.old ≡ length from.now`
+#[inline(never)]
 fn copy_many(to: &mut [u8], from: &[u8]) {
     to.copy_from_slice(from);
 }
 
 /// Copies at most 8 bytes, as `copy` does. Lengths from 4 to 8 share one case, so that a sequence
 /// of copies of such lengths always takes the same branch.
-#[inline(always)]
+///
 /// # Requires
 ///
 /// - `length to.old ≡ length from.now`
 /// - `length from.now ≤ 8`
+#[inline(always)]
 pub(crate) fn copy_few(to: &mut [u8], from: &[u8]) {
     match from.len() {
         0 => {}
@@ -75,10 +80,11 @@ pub(crate) fn copy_few(to: &mut [u8], from: &[u8]) {
 }
 
 /// Copies all of `from` over `to`, which has the same length.
-#[inline]
+///
 /// # Requires
 ///
 /// - `length to.old ≡ length from.now`
+#[inline]
 pub(crate) fn copy(to: &mut [u8], from: &[u8]) {
     // This slice tells rustc that both lengths are equal, so that it leaves out the bounds checks
     // below.

@@ -5,10 +5,11 @@ use rattle_std::{self as std, prelude::*};
 use crate::error::{BufferTooShortError, Result};
 
 /// Returns the `N` bytes from the position `from` on.
-#[inline(always)]
+///
 /// # Requires
 ///
 /// - `from ≤ length bytes.now`
+#[inline(always)]
 fn chunk<const N: usize>(bytes: &[u8], from: usize) -> Result<&[u8; N]> {
     match bytes.get(from..from + N).and_then(|part| part.first_chunk::<N>()) {
         Some(found) => Ok(found),
@@ -17,6 +18,7 @@ fn chunk<const N: usize>(bytes: &[u8], from: usize) -> Result<&[u8; N]> {
 }
 
 /// Returns the byte at the position `from`.
+///
 /// # Requires
 ///
 /// - `from ≤ length bytes.now`
@@ -27,6 +29,7 @@ pub(crate) fn read_u8(bytes: &[u8], from: usize) -> Result<u8> {
 }
 
 /// Returns the two bytes from the position `from` on as a big-endian number.
+///
 /// # Requires
 ///
 /// - `from ≤ length bytes.now`
@@ -36,6 +39,7 @@ pub(crate) fn read_u16(bytes: &[u8], from: usize) -> Result<u16> {
 }
 
 /// Returns the three bytes from the position `from` on as a big-endian number.
+///
 /// # Requires
 ///
 /// - `from ≤ length bytes.now`
@@ -46,6 +50,7 @@ pub(crate) fn read_u24(bytes: &[u8], from: usize) -> Result<u32> {
 }
 
 /// Returns the four bytes from the position `from` on as a big-endian number.
+///
 /// # Requires
 ///
 /// - `from ≤ length bytes.now`
@@ -55,6 +60,7 @@ pub(crate) fn read_u32(bytes: &[u8], from: usize) -> Result<u32> {
 }
 
 /// Returns the eight bytes from the position `from` on as a big-endian number.
+///
 /// # Requires
 ///
 /// - `from ≤ length bytes.now`

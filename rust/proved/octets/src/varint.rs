@@ -72,6 +72,7 @@ pub const fn varint_parse_len(first: u8) -> usize {
 }
 
 /// Returns the width and the value of the varint at the position `from`.
+///
 /// # Requires
 ///
 /// - `from ≤ length bytes.now`
@@ -93,6 +94,7 @@ pub(crate) fn read_varint(bytes: &[u8], from: usize) -> Result<(usize, u64)> {
 }
 
 /// Returns the value of the varint at the position `from`, if the value needs its width.
+///
 /// # Requires
 ///
 /// - `from ≤ length bytes.now`

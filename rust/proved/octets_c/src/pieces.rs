@@ -43,6 +43,7 @@ fn push_code(place: &mut Place, byte: u8) -> Option<u64> {
 
 /// Returns the next word of the encoding, if the bits that wait and the codes that follow fill one.
 /// Otherwise all codes wait.
+///
 /// # Requires
 ///
 /// - `HoldsBits place.old`
@@ -60,6 +61,7 @@ fn next_word(place: &mut Place, value: &[u8], to_lower: bool) -> Option<u64> {
 /// Returns how many bytes the next piece has, where `count` bits remained at the end and `given` of
 /// their bytes were given: 0 if all were given, four if none was given and there are as many, and
 /// otherwise one.
+///
 /// # Requires
 ///
 /// - `count < 64`

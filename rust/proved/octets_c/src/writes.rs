@@ -96,6 +96,7 @@ fn put_parts(cursor: &mut OctetsMut<'_>, value: &[u8]) -> Result<()> {
 }
 
 /// Does what `put_parts` does, and says so of all bytes of the buffer.
+///
 /// # Requires
 ///
 /// - `length value.now < 2 ^ 62`

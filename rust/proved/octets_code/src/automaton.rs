@@ -62,11 +62,12 @@ impl State {
     /// Returns the state whose path is the number `bits`, written in `len` bits. `len` must be at
     /// most three, and `bits` must be below 2 to the power `len`. Each code has more bits than
     /// that, so any three bits are a prefix of a code.
-    #[inline(always)]
+    ///
     /// # Requires
     ///
     /// - `len ≤ 3`
     /// - `bits < 2 ^ len`
+    #[inline(always)]
     #[track_caller]
     pub fn of_front(len: u8, bits: u8) -> State {
         #[cfg(feature = "checked")]
@@ -99,11 +100,12 @@ impl State {
     /// `steps`. `nibble` must be below 16, and the count below 2 to the power 128, less one.
     ///
     /// Each code has at least 5 bits, so a step completes at most one.
-    #[inline(always)]
+    ///
     /// # Requires
     ///
     /// - `nibble < 16`
     /// - `steps.old + 1 < 2 ^ 128`
+    #[inline(always)]
     #[track_caller]
     pub fn step(self, nibble: u8, steps: &mut Steps) -> Step {
         #[cfg(feature = "checked")]

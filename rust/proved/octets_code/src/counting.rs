@@ -26,20 +26,22 @@ impl Steps {
 
     /// Counts the steps over `halves` half bytes, whose codes were read at once. The sum must be
     /// below 2 to the power 128.
-    #[inline(always)]
+    ///
     /// # Requires
     ///
     /// - `self.old + halves < 2 ^ 128`
+    #[inline(always)]
     pub fn spare(&mut self, halves: usize) {
         let Steps { taken } = self;
         *taken += halves as u128;
     }
 
     /// Counts one more step.
-    #[inline(always)]
+    ///
     /// # Requires
     ///
     /// - `self.old + 1 < 2 ^ 128`
+    #[inline(always)]
     pub(crate) fn add_one(&mut self) {
         let Steps { taken } = self;
         *taken += 1;

@@ -16,11 +16,12 @@ pub struct Coded {
 /// Reads `ones` one bits, a zero and the five bits of `more`. It returns the byte whose code these
 /// bits begin with, or `None` for thirty one bits, which are the end code. `ones` must be at most
 /// 30, and `more` below 32. No code has more than five bits after its first zero.
-#[inline(always)]
+///
 /// # Requires
 ///
 /// - `ones ≤ 30`
 /// - `more < 32`
+#[inline(always)]
 #[track_caller]
 pub fn code_behind(ones: u32, more: u8) -> Option<Coded> {
     #[cfg(feature = "checked")]
@@ -46,11 +47,12 @@ pub fn code_behind_unchecked(ones: u32, more: u8) -> Option<Coded> {
 
 /// 32 times the symbol whose code these begin with, and the length of its code; of thirty ones that
 /// of the end code.
-#[inline(always)]
+///
 /// # Requires
 ///
 /// - `ones ≤ 30`
 /// - `more < 32`
+#[inline(always)]
 fn entry_at(ones: u32, more: u8) -> u16 {
     SYMBOLS[ones as usize * 32 + usize::from(more)]
 }

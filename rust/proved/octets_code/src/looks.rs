@@ -14,10 +14,11 @@ pub struct Look {
 }
 
 /// Returns the codes with which the 12 bits of `index` begin. `index` must be below 4096.
-#[inline(always)]
+///
 /// # Requires
 ///
 /// - `index < 4096`
+#[inline(always)]
 #[track_caller]
 pub fn look_at(index: u16) -> Look {
     #[cfg(feature = "checked")]

@@ -9,10 +9,11 @@ use crate::tables::lengths::CODE_LENGTHS;
 /// Returns the code of the symbol `sym` (RFC 7541, Appendix B).
 ///
 /// A symbol is a byte, or 256 for the end of a string. No text contains the code of 256.
-#[inline(always)]
+///
 /// # Requires
 ///
 /// - `sym ≤ 256`
+#[inline(always)]
 #[track_caller]
 pub fn code_of(sym: u16) -> Code {
     #[cfg(feature = "checked")]

@@ -68,6 +68,7 @@ pub fn read_len(cursor: &mut Octets<'_>) -> std::result::Result<u32, LenError> {
 }
 
 /// Writes the length of a packet, or a part of it if it doesn't fit.
+///
 /// # Requires
 ///
 /// - `n < 2 ^ 28`

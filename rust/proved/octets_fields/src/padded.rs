@@ -73,6 +73,7 @@ fn write_padding(cursor: &mut OctetsMut<'_>, len: usize) -> Result<()> {
 }
 
 /// Writes a run after its length, and the padding after the run.
+///
 /// # Requires
 ///
 /// - `length v.now < 2 ^ 16`

@@ -55,6 +55,7 @@ pub fn read_strings<'a>(cursor: &mut Octets<'a>) -> Result<(Octets<'a>, Octets<'
 }
 
 /// Writes a text, and the zero byte that ends it, or nothing if they don't fit.
+///
 /// # Requires
 ///
 /// - `IsText text.now`

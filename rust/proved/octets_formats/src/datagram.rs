@@ -57,6 +57,7 @@ pub fn read_datagram<'a>(cursor: &mut Octets<'a>) -> Result<Datagram<'a>> {
 }
 
 /// Writes a frame at the start of `buffer`, and returns its length.
+///
 /// # Requires
 ///
 /// - `kind < 64`

@@ -50,6 +50,7 @@ pub fn read_message<'a>(cursor: &mut Octets<'a>) -> std::result::Result<Message<
 }
 
 /// Writes a message.
+///
 /// # Requires
 ///
 /// - `IsShort message.now`

@@ -24,6 +24,7 @@ fn write_fields(part: &mut [u8], kind: u8, number: u16) {
 }
 
 /// Lends three bytes, and has them filled.
+///
 /// # Requires
 ///
 /// - `3 ≤ length (rest cursor.old)`

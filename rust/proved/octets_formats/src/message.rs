@@ -47,6 +47,7 @@ pub fn put_bytes_with_u24_length_unchecked<B: Buffer>(cursor: &mut Cursor<B>, v:
 /// must have fewer than 2 to the power 16 bytes.
 ///
 /// If it doesn't fit, the call fails and writes nothing.
+///
 /// # Requires
 ///
 /// - `4 + length sections.now < 2 ^ 16`
@@ -86,6 +87,7 @@ pub fn put_message_unchecked<B: Buffer>(
 }
 
 /// Writes the same at the start of `buffer`, and returns its length.
+///
 /// # Requires
 ///
 /// - `4 + length sections.now < 2 ^ 16`

@@ -87,6 +87,7 @@ fn read_number(cursor: &mut Octets<'_>) -> Result<u64> {
 }
 
 /// Reads a varint if it is there, or returns `absent`.
+///
 /// # Requires
 ///
 /// - `absent < 2 ^ 63`
@@ -157,6 +158,7 @@ fn byte_of(kind: StreamType) -> u8 {
 }
 
 /// Returns how many bytes the varint of a number has, or 0 if it is absent.
+///
 /// # Requires
 ///
 /// - `n < 2 ^ 62`
@@ -166,6 +168,7 @@ fn len_if(is_there: bool, n: u64) -> usize {
 }
 
 /// Returns how many bytes a frame has.
+///
 /// # Requires
 ///
 /// - `id < 2 ^ 62`
@@ -180,6 +183,7 @@ fn frame_len(kind: StreamType, id: u64, offset: u64, payload: &[u8]) -> usize {
 }
 
 /// Writes the varint of a number, or nothing if it is absent.
+///
 /// # Requires
 ///
 /// - `n < 2 ^ 62`
@@ -189,6 +193,7 @@ fn write_if<B: Buffer>(cursor: &mut Cursor<B>, is_there: bool, n: u64) -> Result
 }
 
 /// Writes the fields of a frame, as far as they fit.
+///
 /// # Requires
 ///
 /// - `id < 2 ^ 62`

@@ -145,6 +145,7 @@ fn take_option<'a>(
 }
 
 /// Reads the delta and the value of an option. After an error the offset is anywhere in it.
+///
 /// # Requires
 ///
 /// - `number (take 1 (rest cursor.now)) ≢ 255`

@@ -17,6 +17,7 @@ pub struct Extension<'a> {
 }
 
 /// Writes an extension.
+///
 /// # Requires
 ///
 /// - `length one.now.value.now < 2 ^ 16`
@@ -37,6 +38,7 @@ pub fn write_extension_unchecked(cursor: &mut OctetsMut<'_>, one: &Extension<'_>
 }
 
 /// Writes extensions one after the other.
+///
 /// # Requires
 ///
 /// - `All (λ one. length one.value.now < 2 ^ 16) all.now`

@@ -114,6 +114,7 @@ pub fn read_field(
 ///
 /// If the field doesn't fit, the call fails. It has then written a prefix of the field, and the
 /// offset is after that prefix.
+///
 /// # Requires
 ///
 /// - `length name.now ≤ 4294967295`

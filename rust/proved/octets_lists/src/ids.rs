@@ -11,6 +11,7 @@ use octets::{BufferTooShortError, DecodeError, Octets, OctetsMut, Result};
 use std::alloc::Global;
 
 /// Writes the ids as varints, each as short as it can be, or a part of them if they don't fit.
+///
 /// # Requires
 ///
 /// - `All (λ id. id < 2 ^ 62) ids.now`

@@ -82,6 +82,7 @@ pub fn read_integer_unchecked(cursor: &mut Octets<'_>, size: u8) -> std::result:
 }
 
 /// Returns the integer with which the bytes begin.
+///
 /// # Requires
 ///
 /// - `size ≤ 8`
@@ -120,6 +121,7 @@ fn power_of_two(size: u8) -> u16 {
 
 /// Returns the number in the groups of seven bits with which the bytes begin. There may be at most
 /// `most` groups.
+///
 /// # Requires
 ///
 /// - `0 < most`

@@ -55,6 +55,7 @@ pub(crate) fn read_length(bytes: &[u8]) -> Result<Length, LiteralError> {
 }
 
 /// Returns the number whose groups the bytes begin with. There may be at most `most` groups.
+///
 /// # Requires
 ///
 /// - `0 < most`
@@ -81,6 +82,7 @@ fn read_groups(bytes: &[u8], most: usize) -> Result<Groups, LiteralError> {
 }
 
 /// Appends the shortest length of `len` data bytes to the sink, with the flag.
+///
 /// # Requires
 ///
 /// - `len ≤ 4294967295`
@@ -105,6 +107,7 @@ fn flag_bit(huffman: bool) -> u8 {
 }
 
 /// Appends a number to the sink in groups of 7 bits, as few as hold it.
+///
 /// # Requires
 ///
 /// - `number ≤ 4294967295`

@@ -19,6 +19,7 @@ use octets::{OctetsWriter, huffman_encoding_len, put_huffman_encoded};
 /// put_string::<true, OctetsMut<'_>>(&mut cursor, b"AA")?;
 /// assert_eq!(cursor.off(), 3);
 /// ```
+///
 /// # Requires
 ///
 /// - `length v.now ≤ 4294967295`
@@ -44,6 +45,7 @@ pub fn put_string_unchecked<const LOWER_CASE: bool, W: OctetsWriter>(
 
 /// Appends the length of the data and then the data to `sink`. The data are the Huffman encoding of
 /// `v` exactly if it is shorter than `v`. The clauses of `put_string` follow from this one.
+///
 /// # Requires
 ///
 /// - `length v.now ≤ 4294967295`

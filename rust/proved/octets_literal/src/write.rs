@@ -18,6 +18,7 @@ use octets::{BufferTooShortError, OctetsMut, Result};
 /// write_string::<false>(&mut cursor, b"aa")?;
 /// assert!(cursor.buf() == [2, 97, 97, 0].as_slice());
 /// ```
+///
 /// # Requires
 ///
 /// - `length v.now ≤ 4294967295`
@@ -37,6 +38,7 @@ pub fn write_string_unchecked<const LOWER_CASE: bool>(cursor: &mut OctetsMut<'_>
 
 /// Writes the length of the data and then the data, which are the Huffman encoding of `v` exactly
 /// if it is shorter than `v`. The clauses of `write_string` follow from these.
+///
 /// # Requires
 ///
 /// - `length v.now ≤ 4294967295`
@@ -57,6 +59,7 @@ fn write_parts<const LOWER_CASE: bool>(cursor: &mut OctetsMut<'_>, v: &[u8]) -> 
 
 /// Writes the shortest length of `len` data bytes, with the flag, if the data fit after it. If
 /// there are no data, `put_bytes` alone decides whether the length fits.
+///
 /// # Requires
 ///
 /// - `len ≤ 4294967295`
@@ -73,6 +76,7 @@ fn write_length(cursor: &mut OctetsMut<'_>, huffman: bool, len: usize) -> Result
 }
 
 /// Writes the bytes of `v`, in lower case if `to_lower` is true.
+///
 /// # Requires
 ///
 /// - `length v.now ≤ length (rest cursor.old)`
@@ -82,6 +86,7 @@ fn write_plain(cursor: &mut OctetsMut<'_>, v: &[u8], to_lower: bool) {
 }
 
 /// Copies the bytes of `v` into `out`, in lower case if `to_lower` is true.
+///
 /// # Requires
 ///
 /// - `length out.old ≡ length v.now`

@@ -65,10 +65,11 @@ impl<'a> Octets<'a> {
     /// ```
     // This function is inlined so that the two calls above needn't count. They are inlined so that
     // short encodings are decoded fast.
-    #[inline(always)]
+    ///
     /// # Requires
     ///
     /// - `steps.old + 2 * length (rest self.old) < 2 ^ 128`
+    #[inline(always)]
     pub fn get_huffman_decoded_counted(
         &mut self,
         alloc: Global,

@@ -32,11 +32,12 @@ fn put_tail<T: Target>(target: &mut T, tail: &[u8]) -> Result<(), T::Error> {
 /// Gives the `len` most significant bytes of `word` to the target, most significant byte first. It
 /// gives them all at once if `at_once` is true and the target can take them so, and otherwise as
 /// `put_tail` does.
-#[inline]
+///
 /// # Requires
 ///
 /// - `1 ≤ len`
 /// - `len ≤ 8`
+#[inline]
 fn put_last<T: Target>(target: &mut T, word: u64, len: usize, at_once: bool) -> Result<(), T::Error> {
     if at_once && target.put_at_once(word, len) {
         Ok(())

@@ -26,10 +26,11 @@ fn pair_bit_lens(pair: &[u8; 2], to_lower: bool) -> (u32, u32) {
 /// Returns how many bits the codes of `src` have. `src` must have fewer than 2 to the power 27
 /// bytes, so that sums of 32 bits don't overflow. There are two sums, so that one addition needn't
 /// wait for the other.
-#[inline(always)]
+///
 /// # Requires
 ///
 /// - `length src.now < 2 ^ 27`
+#[inline(always)]
 fn short_bit_len(src: &[u8], to_lower: bool) -> u32 {
     let (pairs, last) = src.as_chunks::<2>();
     let mut first = 0;

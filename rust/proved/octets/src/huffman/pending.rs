@@ -43,11 +43,12 @@ impl Pending {
     /// let pending = Pending::of_bits(5, 0x1800000000000000);
     /// assert_eq!(pending.count(), 5);
     /// ```
-    #[inline]
+    ///
     /// # Requires
     ///
     /// - `count < 64`
     /// - `bits % 2 ^ (64 - count) ≡ 0`
+    #[inline]
     #[track_caller]
     pub fn of_bits(count: u32, bits: u64) -> Pending {
         #[cfg(feature = "checked")]
@@ -121,12 +122,13 @@ impl Pending {
 
     /// Adds the lowest `len` bits of `bits`, whose other bits must be zero. If there are now at
     /// least 64 bits, it takes the first 64 and returns them.
-    #[inline]
+    ///
     /// # Requires
     ///
     /// - `1 ≤ len`
     /// - `len ≤ 60`
     /// - `bits < 2 ^ len`
+    #[inline]
     fn push_bits(&mut self, len: u32, bits: u64) -> Option<u64> {
         let count = self.count + len;
         if count < 64 {
@@ -143,6 +145,7 @@ impl Pending {
     }
 
     /// Returns the bits as the most significant bits of a word, whose other bits are ones.
+    ///
     /// # Requires
     ///
     /// - `0 < length self.now`

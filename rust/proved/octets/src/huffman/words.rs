@@ -11,10 +11,11 @@ pub(crate) fn word_bytes(word: u64) -> [u8; 8] {
 }
 
 /// Returns eight bytes as a big-endian word. It compiles to one byte swap too.
-#[inline]
+///
 /// # Requires
 ///
 /// - `length bytes.now ≡ 8`
+#[inline]
 pub(crate) fn word_of(bytes: &[u8]) -> u64 {
     match bytes.first_chunk::<8>() {
         Some(word) => u64::from_be(u64::from_ne_bytes(*word)),
@@ -23,10 +24,11 @@ pub(crate) fn word_of(bytes: &[u8]) -> u64 {
 }
 
 /// Returns four bytes as a big-endian word.
-#[inline]
+///
 /// # Requires
 ///
 /// - `length bytes.now ≡ 4`
+#[inline]
 pub(crate) fn half_of(bytes: &[u8]) -> u32 {
     match bytes.first_chunk::<4>() {
         Some(half) => u32::from_be(u32::from_ne_bytes(*half)),

@@ -13,10 +13,11 @@ pub(super) fn bit_move(index: u8, bit: bool) -> Move {
 }
 
 /// The move from the state with the number `index` over the four bits of `nibble`.
-#[inline(always)]
+///
 /// # Requires
 ///
 /// - `nibble < 16`
+#[inline(always)]
 pub(super) fn nibble_move(index: u8, nibble: u8) -> Move {
     NIBBLE_MOVES[index as usize][nibble as usize]
 }

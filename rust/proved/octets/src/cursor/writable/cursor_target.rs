@@ -12,11 +12,12 @@ use crate::huffman::words::{word_bytes, word_of};
 /// Returns eight bytes: the `len` most significant bytes of `word`, most significant byte first,
 /// and then the bytes that `rest` has at the other positions. It returns `None` if `rest` has fewer
 /// than eight bytes.
-#[inline]
+///
 /// # Requires
 ///
 /// - `1 ≤ len`
 /// - `len ≤ 8`
+#[inline]
 fn front_over(word: u64, len: usize, rest: &[u8]) -> Option<[u8; 8]> {
     if rest.len() < 8 {
         return None;

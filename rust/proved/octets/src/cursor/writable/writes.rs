@@ -38,10 +38,11 @@ impl<B: Buffer> Cursor<B> {
     }
 
     /// Writes all bytes of `v`, which must fit, and moves the offset past them.
-    #[inline(always)]
+    ///
     /// # Requires
     ///
     /// - `length v.now ≤ length (rest self.old)`
+    #[inline(always)]
     pub(crate) fn put_fitting(&mut self, v: &[u8]) {
         // The proof needs this call: its clauses bound the sum below.
         let _cap = self.cap();
@@ -139,6 +140,7 @@ impl<B: Buffer> Cursor<B> {
     /// cursor.write_varint_with_len(37, 2)?;
     /// assert!(cursor.buf() == [0x40, 0x25, 0].as_slice());
     /// ```
+    ///
     /// # Requires
     ///
     /// - `IsWidth len`

@@ -9,6 +9,7 @@ use octets_code::{Step, Steps};
 
 /// Returns the half byte number `half` of `text`. The four most significant bits of each byte come
 /// first.
+///
 /// # Requires
 ///
 /// - `half < 2 * length text.now`

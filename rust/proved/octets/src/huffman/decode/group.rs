@@ -24,10 +24,11 @@ struct Seen {
 }
 
 /// Does one more lookup.
-#[inline(always)]
+///
 /// # Requires
 ///
 /// - `(x : List Bool) × (k : ℕ) × (k ≤ 3) × IsSeen x k seen.rest seen.sums seen.bytes`
+#[inline(always)]
 fn look_on(seen: Seen) -> Seen {
     let look = look_at_unchecked((seen.rest >> 52) as u16);
     let cut = u64::from(look.cut);

@@ -17,12 +17,13 @@ pub(crate) struct Refusal {
 const WINDOWED: usize = 3;
 
 /// Appends the value of the encoding `text` to `value`, which is empty at the call.
-#[inline(always)]
+///
 /// # Requires
 ///
 /// - `S.held value.old ≡ []`
 /// - `min (2 * length text.now) max_len ≤ S.room value.old`
 /// - `steps.old + 2 * length text.now < 2 ^ 128`
+#[inline(always)]
 pub(crate) fn read_text<S: Store>(
     text: &[u8],
     value: &mut S,
@@ -73,6 +74,7 @@ pub(super) fn read_rest<S: Store>(
 }
 
 /// Returns the state after the bits from `at` to the end of the half byte that contains it.
+///
 /// # Requires
 ///
 /// - `at ≤ 8 * length text.now`
@@ -123,13 +125,14 @@ pub(super) fn end_text(text: &[u8], state: State) -> Result<(), Refusal> {
 
 /// Reads the encoding from the byte `from` to its end. It is inlined so that a short decode keeps
 /// the count of steps in registers.
-#[inline(always)]
+///
 /// # Requires
 ///
 /// - `IsRead (bits (take from text.now)) max_len (S.held value.old) state`
 /// - `from ≤ length text.now`
 /// - `min max_len (length (S.held value.old) + 2 * (length text.now - from)) ≤ S.room value.old`
 /// - `steps.old + 2 * (length text.now - from) < 2 ^ 128`
+#[inline(always)]
 fn read_part<S: Store>(
     text: &[u8],
     from: usize,

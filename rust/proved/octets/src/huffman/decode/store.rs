@@ -70,10 +70,11 @@ impl Store for Vec<u8> {
 }
 
 /// Pushes the `count` least significant bytes of `word`, least significant byte first.
-#[inline(always)]
+///
 /// # Requires
 ///
 /// - `length value.old.items + count ≤ vec_capacity value.old`
+#[inline(always)]
 fn push_low(value: &mut Vec<u8>, word: u64, count: usize) {
     let mut rest = word;
     for _ in 0..count {
@@ -83,10 +84,11 @@ fn push_low(value: &mut Vec<u8>, word: u64, count: usize) {
 }
 
 /// Pushes all of `bytes`.
-#[inline(always)]
+///
 /// # Requires
 ///
 /// - `length value.old.items + length bytes.now ≤ vec_capacity value.old`
+#[inline(always)]
 fn push_all(value: &mut Vec<u8>, bytes: &[u8]) {
     for byte in bytes {
         value.push_reserved(*byte);

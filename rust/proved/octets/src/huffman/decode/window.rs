@@ -35,10 +35,11 @@ fn rest_and_ones(last: u64, past: usize) -> u64 {
 }
 
 /// Returns the first 64 bits of the encoding.
-#[inline(always)]
+///
 /// # Requires
 ///
 /// - `IsLast text.now last`
+#[inline(always)]
 pub(super) fn first_window(text: &[u8], last: u64) -> u64 {
     if text.len() >= 8 {
         return word_of(&text[..8]);
@@ -47,12 +48,13 @@ pub(super) fn first_window(text: &[u8], last: u64) -> u64 {
 }
 
 /// Returns the bits that follow the window that begins at the bit `at`.
-#[inline(always)]
+///
 /// # Requires
 ///
 /// - `IsLast text.now last`
 /// - `length text.now < 2 ^ 60`
 /// - `at ≤ 8 * length text.now`
+#[inline(always)]
 pub(super) fn bits_behind(text: &[u8], last: u64, at: usize) -> u64 {
     let from = at / 8;
     if text.len() - from >= 16 {
@@ -62,10 +64,11 @@ pub(super) fn bits_behind(text: &[u8], last: u64, at: usize) -> u64 {
 }
 
 /// Returns the window that begins `count` bits later.
-#[inline(always)]
+///
 /// # Requires
 ///
 /// - `count ≤ 57`
+#[inline(always)]
 pub(super) fn next_window(window: u64, behind: u64, count: usize) -> u64 {
     // There are two shifts since `count` may be 0, and a shift by 64 bits would overflow.
     window << count | behind >> 1 >> (63 - count)

@@ -49,11 +49,12 @@ pub(super) struct Whole {
 /// Adds the bytes whose codes are at the start of `text`. It stops at the padding, at the limit, or
 /// if no code of a byte follows. It reads nothing of an encoding of 2^60 bytes or more (of 2^28
 /// bytes, if `usize` has 32 bits), so that the number of bits plus 128 fits in a `usize`.
-#[inline(always)]
+///
 /// # Requires
 ///
 /// - `S.held value.old ≡ []`
 /// - `min (2 * length text.now) max_len ≤ S.room value.old`
+#[inline(always)]
 pub(super) fn read_whole<S: Store>(text: &[u8], value: &mut S, max_len: usize) -> Whole {
     if text.len() >= 1 << (usize::BITS - 4) {
         return Whole {

@@ -13,10 +13,11 @@ use crate::cursor::buffer::Buffer;
 impl<B: Buffer> Cursor<B> {
     /// Lends the `len` bytes from position `from` on for writing, and leaves the offset where it
     /// is.
-    #[inline(always)]
+    ///
     /// # Requires
     ///
     /// - `from + len ≤ length (bytes self.old)`
+    #[inline(always)]
     pub(crate) fn lend_at(&mut self, from: usize, len: usize) -> &mut [u8] {
         self.buf.part_mut(from, len)
     }
