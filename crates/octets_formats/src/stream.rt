@@ -170,7 +170,9 @@ fn read_data<'a>(
     if count > cursor.cap() as u64 {
         return Err(StreamError::NoData);
     }
-    cursor.get_bytes(count as usize).map_err(|_| StreamError::NoData)
+    cursor
+        .get_bytes(count as usize)
+        .map_err(|_| StreamError::NoData)
 }
 
 /// Reads the fields of a frame. If it fails, the offset may be after some of them.
@@ -292,7 +294,11 @@ fn write_if<B: Buffer>(cursor: &mut Cursor<B>, is_there: bool, n: u64) -> Result
     ensures fits { IsOk result ↔ (length (least_if is_there n) ≤ length (rest cursor.old)) }
     ensures writes { OnOk result (Writes cursor.old cursor.new (least_if is_there n)) }
 {
-    if is_there { cursor.write_varint(n) } else { Ok(()) }
+    if is_there {
+        cursor.write_varint(n)
+    } else {
+        Ok(())
+    }
 }
 
 /// Writes the fields of a frame, as far as they fit.

@@ -111,7 +111,9 @@ fn read_data<'a>(
     if count > cursor.cap() as u64 {
         return Err(StreamError::NoData);
     }
-    cursor.get_bytes(count as usize).map_err(|_| StreamError::NoData)
+    cursor
+        .get_bytes(count as usize)
+        .map_err(|_| StreamError::NoData)
 }
 
 /// Reads the fields of a frame. If it fails, the offset may be after some of them.
@@ -189,7 +191,11 @@ fn frame_len(kind: StreamType, id: u64, offset: u64, payload: &[u8]) -> usize {
 /// - `n < 2 ^ 62`
 #[inline]
 fn write_if<B: Buffer>(cursor: &mut Cursor<B>, is_there: bool, n: u64) -> Result<()> {
-    if is_there { cursor.write_varint_unchecked(n) } else { Ok(()) }
+    if is_there {
+        cursor.write_varint_unchecked(n)
+    } else {
+        Ok(())
+    }
 }
 
 /// Writes the fields of a frame, as far as they fit.
