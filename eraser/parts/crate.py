@@ -21,6 +21,7 @@ class Replacement:
     """Lines that package.toml has written otherwise, by their tokens, with the reason."""
 
     file: str
+    said: str
     old: list
     new: str
     why: str
@@ -95,7 +96,7 @@ class Crate:
         if entry.keys() != {"file", "old", "new", "why"}:
             raise Refused(f"{self.folder / 'package.toml'}: a replacement has file, old, new and why")
         old = [token.text for token in tokens_of(entry["old"])][:-1]
-        return Replacement(entry["file"], old, entry["new"], entry["why"])
+        return Replacement(entry["file"], entry["old"], old, entry["new"], entry["why"])
 
     def replacement_at(self, source):
         """The replacement of the lines that come next, if there is one."""

@@ -147,5 +147,6 @@ def readme(crate, functions):
                             f"{'yes' if is_checked else 'no'} |")
     text += invariants(crate)
     for each in crate.replacements:
-        text += ["", f"In `{each.file}` the eraser wrote `{each.new}` in place of the proved lines: {each.why}"]
+        done = f"wrote `{each.new}` in place of" if each.new else "left out"
+        text += ["", f"In `{each.file}` the eraser {done} `{each.said}`: {each.why}"]
     return "\n".join(text) + "\n"
