@@ -19,14 +19,13 @@ pub fn output(alloc: Global, limit: usize, input: &[u8]) -> Result<Output, Alloc
     ensures { IfOk result (λ output. IsLiteralOutput limit input.now (shown output)) }
 {
     let mut cursor = Octets::with_slice(input);
-    let why = match get_string(alloc, &mut cursor, limit) {
+    let text = match get_string(alloc, &mut cursor, limit) {
         Ok(value) => return answered_literal(alloc, value, cursor.cap()),
-        Err(LiteralError::Short) => "short",
-        Err(LiteralError::Length) => "length",
-        Err(LiteralError::Value) => "value",
+        Err(LiteralError::Short) => format!(in alloc; "refused short\n")?,
+        Err(LiteralError::Length) => format!(in alloc; "refused length\n")?,
+        Err(LiteralError::Value) => format!(in alloc; "refused value\n")?,
         Err(LiteralError::OutOfMemory) => return Err(AllocError),
     };
-    let text = format!(in alloc; "refused {why}\n")?;
     Ok(Output::refused(text))
 }
 
