@@ -1,5 +1,4 @@
 //! Words that spell decimal numbers.
-#![tactic(auto, using(crate::proofs::Decimals::decimals, crate::proofs::Rows::counted))]
 
 ghost use Rattle.std.specs.Prelude.{◌≡◌, ◌↔◌, ℕ, ◌^◌, ◌<◌, ◌≤◌, if◌then◌else◌, nat_le, Some, None};
 ghost use Rattle.std.specs.Fmt.{decimal};
@@ -12,6 +11,7 @@ pub const MOST_COUNT: u64 = 4_294_967_295;
 
 /// Returns the decimal number that a word spells. It has no sign, and no leading zero except in
 /// `0`.
+#[tactic(auto, using(crate::proofs::Decimals::decimals))]
 pub fn number_of(word: &[u8]) -> Option<u64>
     ensures { (n : ℕ) → (result ≡ Some n) ↔ ((n < 2 ^ 64) × (word.now ≡ decimal n)) }
 {
@@ -24,6 +24,7 @@ pub fn number_of(word: &[u8]) -> Option<u64>
 
 /// Returns the decimal number that a word spells, if it may be a limit, a position or a number of
 /// bytes.
+#[tactic(auto, using(crate::proofs::Rows::counted))]
 pub fn count_of(word: &[u8]) -> Option<usize>
     ensures { (n : ℕ) → (result ≡ Some n) ↔ ((n ≤ most_count) × (word.now ≡ decimal n)) }
 {

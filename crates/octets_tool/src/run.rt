@@ -1,5 +1,4 @@
 //! The function that runs one command, from the bytes that are read to the text that is written.
-#![tactic(auto, using(std::proofs::lemmas::Result::err_from_is_err_and))]
 
 ghost use Rattle.std.specs.Prelude.{◌≡◌, ◌≢◌, ◌≤◌, length, IfOk, IfErr, IfSome, OnOk};
 ghost use Rattle.std.specs.Io.KnownBytes.{Consumes, IsAtEnd};

@@ -1,5 +1,4 @@
 //! `encode` and `encode-lower` print the Huffman encoding of the input.
-#![tactic(auto, using(crate::proofs::Texts::texts, octets_code::proofs::TextLemmas::each_byte))]
 
 ghost use Rattle.std.specs.Prelude.{◌≡◌, ◌≤◌, ◌++◌, length, drop, IfOk};
 ghost use Rattle.octets.specs.Encodes.{text_of};
@@ -28,6 +27,7 @@ pub fn output<const LOWER_CASE: bool>(alloc: Global, value: &[u8]) -> Result<Out
 }
 
 /// Returns the encoding of a value. Four bytes for each byte of the value are always enough for it.
+#[tactic(auto, using(crate::proofs::Texts::texts, octets_code::proofs::TextLemmas::each_byte))]
 fn encoding_of<const LOWER_CASE: bool>(alloc: Global, value: &[u8]) -> Result<Vec<u8>, AllocError>
     requires { length value.now ≤ most_input }
     ensures { IfOk result (λ text. text.items ≡ text_of LOWER_CASE value.now) }
