@@ -69,7 +69,6 @@ pub fn read_typed(cursor: &mut Octets<'_>) -> std::result::Result<(u64, u64), Fr
 // A function that reads more fields calls `read_typed` first. For given bytes exactly one of its
 // clauses `overlong`, `lacking`, `cut` and `every` says what it returns.
 /// Reads the type of a frame, the number after it, and a number of two bytes.
-#[tactic(auto, using(octets::proofs::CallerLemmas::passes_more))]
 pub fn read_longer(cursor: &mut Octets<'_>) -> std::result::Result<(u64, u64, u16), FrameError>
     ensures overlong { IsErrOf result FrameErrors.Overlong ↔ BeginsOverlong (rest cursor.old) }
     ensures lacking { HasNoVarint (rest cursor.old)
