@@ -2,7 +2,6 @@
 //!
 //! Each function does what a call of `loans.rt` does before its loan: it moves the offset or
 //! writes. It returns the range, which `lend_part` then lends.
-#![tactic(auto, using(crate::proofs::lemmas::Writes::put_parts))]
 
 ghost use Rattle.std.specs.Prelude.{◌↔◌, ◌+◌, ◌-◌, ◌*◌, ◌^◌, ◌<◌, ◌≤◌, length, IsOk};
 ghost use Rattle.octets.specs.Bytes.{network};
