@@ -10,7 +10,7 @@ use Rattle.octets.specs.Cursor.{bytes, rest, IsViewOf, Passes, Reads, ReadsVarin
 use Rattle.octets.proofs.CallerLemmas.{reads_varint}
 use Rattle.octets.proofs.lemmas.Splices.{network_high}
 use Rattle.octets.proofs.lemmas.Writes.{keeps_gives, splice_at_ok}
-use Rattle.octets.proofs.lemmas.Varints.{begins_below, width_cases}
+use Rattle.octets.proofs.lemmas.Varints.{begins_below}
 
 module _ {X : Type 0} {g : Ghosts X} where
   -- a varint that begins what remains, and is passed, is one that is read
@@ -24,10 +24,8 @@ module _ {X : Type 0} {g : Ghosts X} where
   unfolding Reads prefixed
   some_run a b c v n k read fits view run = grind (arith, append_assoc, length-append, length-take)
 
--- a number is written, a varint, a text
+-- a number is written, or a text
 pub ruleset numbers = (network_high)
-
-pub ruleset widths = (width_cases)
 
 pub ruleset texts = (keeps_gives, splice_at_ok)
 

@@ -71,7 +71,6 @@ impl<B: Buffer> Cursor<B> {
     /// assert!(run.buf() == b"ab".as_slice());
     /// assert_eq!(cursor.off(), 3);
     /// ```
-    #[tactic(auto, using(crate::proofs::CallerLemmas::passes_more))]
     pub fn get_bytes_with_u8_length(&mut self) -> Result<Octets<'_>>
         ensures* leaves { sem 𝓛 (EndsPastPrefix B.row B.Bytes self.entry result 1) }
         ensures fits { IsOk result
@@ -95,7 +94,6 @@ impl<B: Buffer> Cursor<B> {
     /// assert!(run.buf() == b"ab".as_slice());
     /// assert_eq!(cursor.off(), 4);
     /// ```
-    #[tactic(auto, using(crate::proofs::CallerLemmas::passes_more))]
     pub fn get_bytes_with_u16_length(&mut self) -> Result<Octets<'_>>
         ensures* leaves { sem 𝓛 (EndsPastPrefix B.row B.Bytes self.entry result 2) }
         ensures fits { IsOk result

@@ -31,7 +31,6 @@ impl<B: Buffer> Cursor<B> {
     /// assert!(cursor.buf() == [97, 98, 0].as_slice());
     /// ```
     #[inline(always)]
-    #[tactic(auto, using(crate::proofs::lemmas::Splices::spliced))]
     pub fn put_bytes(&mut self, v: &[u8]) -> Result<()>
         ensures fits { IsOk result ↔ (length v.now ≤ length (rest self.old)) }
         ensures writes { IfOk result (λ _. Writes self.old self.new v.now) }
@@ -93,7 +92,7 @@ impl<B: Buffer> Cursor<B> {
     /// cursor.write_u8(7)?;
     /// assert!(cursor.buf() == [7, 0].as_slice());
     /// ```
-    #[tactic(auto, using(crate::proofs::Cursors::numbers), unfolding(crate::specs::Bytes::network))]
+    #[tactic(auto, unfolding(crate::specs::Bytes::network))]
     pub fn write_u8(&mut self, v: u8) -> Result<()>
         ensures fits { IsOk result ↔ (1 ≤ length (rest self.old)) }
         ensures writes { IfOk result (λ _. Writes self.old self.new (network 1 v)) }
@@ -136,7 +135,7 @@ impl<B: Buffer> Cursor<B> {
     /// cursor.write_u24(0x010203)?;
     /// assert!(cursor.buf() == [1, 2, 3].as_slice());
     /// ```
-    #[tactic(auto, using(crate::proofs::Cursors::numbers), unfolding(crate::specs::Bytes::network))]
+    #[tactic(auto, unfolding(crate::specs::Bytes::network))]
     pub fn write_u24(&mut self, v: u32) -> Result<()>
         ensures fits { IsOk result ↔ (3 ≤ length (rest self.old)) }
         ensures writes { IfOk result (λ _. Writes self.old self.new (network 3 v)) }
@@ -157,7 +156,7 @@ impl<B: Buffer> Cursor<B> {
     /// cursor.write_u32(0x01020304)?;
     /// assert!(cursor.buf() == [1, 2, 3, 4].as_slice());
     /// ```
-    #[tactic(auto, using(crate::proofs::Cursors::numbers), unfolding(crate::specs::Bytes::network))]
+    #[tactic(auto, unfolding(crate::specs::Bytes::network))]
     pub fn write_u32(&mut self, v: u32) -> Result<()>
         ensures fits { IsOk result ↔ (4 ≤ length (rest self.old)) }
         ensures writes { IfOk result (λ _. Writes self.old self.new (network 4 v)) }
@@ -202,7 +201,7 @@ impl<B: Buffer> Cursor<B> {
     /// cursor.write_varint_with_len(37, 2)?;
     /// assert!(cursor.buf() == [0x40, 0x25, 0].as_slice());
     /// ```
-    #[tactic(auto, using(crate::proofs::Cursors::widths), unfolding(crate::specs::Varints::varint))]
+    #[tactic(auto, unfolding(crate::specs::Varints::varint))]
     pub fn write_varint_with_len(&mut self, v: u64, len: usize) -> Result<()>
         requires width { IsWidth len }
         requires held { v < 2 ^ (8 * len - 2) }
