@@ -101,7 +101,6 @@ fn write_padding(cursor: &mut OctetsMut<'_>, len: usize) -> Result<()>
 }
 
 /// Writes a run after its length, and the padding after the run.
-#[tactic(auto, using(octets::proofs::CallerLemmas::rows))]
 pub fn write_padded(cursor: &mut OctetsMut<'_>, v: &[u8]) -> Result<()>
     requires { length v.now < 2 ^ 16 }
     ensures fits { IsOk result

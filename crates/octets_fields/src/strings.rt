@@ -34,7 +34,6 @@ fn end_of_text(bytes: &[u8]) -> Option<usize>
 }
 
 /// Reads a run whose length the caller knows.
-#[tactic(auto, using(octets::proofs::CallerLemmas::written))]
 fn read_before_zero<'a>(cursor: &mut Octets<'a>, len: usize) -> Result<Octets<'a>>
     ensures fits { IsOk result ↔ (len ≤ length (rest cursor.old)) }
     ensures view { IfOk result (λ v. bytes v ≡ take len (rest cursor.old)) }
@@ -47,7 +46,7 @@ fn read_before_zero<'a>(cursor: &mut Octets<'a>, len: usize) -> Result<Octets<'a
 }
 
 /// Reads such a run, and the byte after it.
-#[tactic(auto, using(octets::proofs::CallerLemmas::parts, octets::proofs::CallerLemmas::passes_more), unfolding(crate::specs::Strings::ended))]
+#[tactic(auto, using(octets::proofs::CallerLemmas::parts), unfolding(crate::specs::Strings::ended))]
 fn read_ended<'a>(cursor: &mut Octets<'a>, len: usize) -> Result<Octets<'a>>
     ensures fits { IsOk result ↔ (len + 1 ≤ length (rest cursor.old)) }
     ensures view { IfOk result (λ v. bytes v ≡ take len (rest cursor.old)) }

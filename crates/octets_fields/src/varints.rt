@@ -1,8 +1,7 @@
 //! Varints of any width.
 //!
 //! A varint of any width is stated by `BeginsVarint l w n`: the list l begins with a varint of
-//! n in w bytes. The lemma `passes_more` says that passing m bytes and then n bytes passes m +
-//! n bytes.
+//! n in w bytes.
 //!
 //! QUIC's ACK frame has four varints after its type. The checker finds no proof of `every` for
 //! a function that reads all four. So `BeginsTwo` defines what two varints are. The function
@@ -16,7 +15,7 @@ ghost use Rattle.octets_fields.specs.TwoVarints.{BeginsTwo};
 use octets::{Octets, Result};
 
 /// Reads two varints.
-#[tactic(auto, using(octets::proofs::CallerLemmas::passes_more), unfolding(crate::specs::TwoVarints::BeginsTwo))]
+#[tactic(auto, unfolding(crate::specs::TwoVarints::BeginsTwo))]
 pub fn read_two(cursor: &mut Octets<'_>) -> Result<(u64, u64)>
     ensures every { (n a b : ℕ) → BeginsTwo (rest cursor.old) n a b
         → IsOkAnd result (λ r. (r.0 ≡ a) × (r.1 ≡ b)) × Passes cursor.old cursor.new n }
@@ -25,7 +24,6 @@ pub fn read_two(cursor: &mut Octets<'_>) -> Result<(u64, u64)>
 }
 
 /// Reads four varints, as after the type of QUIC's ACK frame.
-#[tactic(auto, using(octets::proofs::CallerLemmas::passes_more))]
 pub fn read_four(cursor: &mut Octets<'_>) -> Result<(u64, u64, u64, u64)>
     ensures every { (n m a b c d : ℕ) → BeginsTwo (rest cursor.old) n a b
         → BeginsTwo (drop n (rest cursor.old)) m c d
@@ -41,7 +39,6 @@ pub fn read_four(cursor: &mut Octets<'_>) -> Result<(u64, u64, u64, u64)>
 ///
 /// `fits` says nothing about bytes that don't begin with two whole varints. For these, the call
 /// returns an error, because `value` says that after `Ok` there were two.
-#[tactic(auto, using(octets::proofs::CallerLemmas::passes_more))]
 pub fn read_frame<'a>(cursor: &mut Octets<'a>) -> Result<(u64, Octets<'a>)>
     ensures fits { (i j kind len : ℕ) → BeginsVarint (rest cursor.old) i kind
         → BeginsVarint (drop i (rest cursor.old)) j len

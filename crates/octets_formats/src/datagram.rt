@@ -81,7 +81,6 @@ pub fn read_datagram<'a>(cursor: &mut Octets<'a>) -> Result<Datagram<'a>>
 }
 
 /// Writes a frame at the start of `buffer`, and returns its length.
-#[tactic(auto, using(octets::specs::Writing::same_reference))]
 fn write_at_start(buffer: &mut [u8], kind: u8, payload: &[u8]) -> Result<usize>
     requires kind { kind < 64 }
     requires few { length payload.now < 2 ^ 62 }

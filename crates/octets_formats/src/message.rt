@@ -89,7 +89,6 @@ pub fn put_message<B: Buffer>(
 }
 
 /// Writes the same at the start of `buffer`, and returns its length.
-#[tactic(auto, using(octets::specs::Writing::same_reference))]
 pub fn write_message(buffer: &mut [u8], id: u16, flags: u16, sections: &[u8]) -> Result<usize>
     requires { 4 + length sections.now < 2 ^ 16 }
     ensures fits { IsOk result ↔ (6 + length sections.now ≤ length buffer.old) }

@@ -186,7 +186,7 @@ fn take_option<'a>(
 }
 
 /// Reads the delta and the value of an option. After an error the offset is anywhere in it.
-#[tactic(auto, using(octets::proofs::CallerLemmas::passes_more), unfolding(crate::specs::CoapOptions::delta, crate::specs::CoapOptions::value_length, crate::specs::CoapOptions::head_length))]
+#[tactic(auto, unfolding(crate::specs::CoapOptions::delta, crate::specs::CoapOptions::value_length, crate::specs::CoapOptions::head_length))]
 fn read_parts<'a>(cursor: &mut Octets<'a>) -> std::result::Result<Parts<'a>, CoapError>
     requires { number (take 1 (rest cursor.now)) ≢ 255 }
     ensures whole { IsOk result → IsWhole (rest cursor.old) }

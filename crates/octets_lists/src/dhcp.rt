@@ -87,7 +87,7 @@ impl<'a> Iterator for DhcpOptions<'a> {
 /// assert!(option.value.buf() == [3].as_slice());
 /// assert_eq!(read_option(&mut cursor)?, None);
 /// ```
-#[tactic(auto, using(octets::proofs::CallerLemmas::passes_more), unfolding(crate::specs::DhcpOptions::BeginsEnd, crate::specs::DhcpOptions::BeginsOption, crate::specs::DhcpOptions::EndsInOption))]
+#[tactic(auto, unfolding(crate::specs::DhcpOptions::BeginsEnd, crate::specs::DhcpOptions::BeginsOption, crate::specs::DhcpOptions::EndsInOption))]
 pub fn read_option<'a>(cursor: &mut Octets<'a>) -> Result<Option<DhcpOption<'a>>>
     ensures option { IfOk result (λ o. IfSome o (λ v. (position v.value ≡ 0)
         × ((n : ℕ) × BeginsOption (rest cursor.old) n v.code (bytes v.value)
@@ -137,7 +137,6 @@ fn count_pads(bytes: &[u8]) -> usize
 }
 
 /// Reads the end option, or an option that has a value.
-#[tactic(auto, using(octets::proofs::CallerLemmas::passes_more))]
 fn read_after_pads<'a>(cursor: &mut Octets<'a>) -> Result<Option<DhcpOption<'a>>>
     ensures option { IfOk result (λ o. IfSome o (λ v. (position v.value ≡ 0)
         × IsOption (rest cursor.old) v.code (bytes v.value)
