@@ -2,11 +2,10 @@
 //! Byte strings of a fixed length that are copied into an array.
 //!
 //! The clause `every` of a reader that copies a run into an array needs a function of its own
-//! for the run. That function takes the length as a parameter, and names the set `written`:
-//! here `read_run`. `read_id` copies the run by `copy_from_slice`, which requires that both
-//! slices have the same length. In a contract an array is the list of its N numbers. A clause
-//! that states the array by its position needs no such function and no attribute, also in a
-//! reader that is generic in the length.
+//! for the run, which takes the length as a parameter: here `read_run`. `read_id` copies the run
+//! by `copy_from_slice`, which requires that both slices have the same length. In a contract an
+//! array is the list of its N numbers. A clause that states the array by its position needs no
+//! such function and no attribute, also in a reader that is generic in the length.
 //!
 //! A clause `every` may also quantify over a whole struct, as that of `read_point`. Its
 //! premises give the ranges of the fields.

@@ -8,9 +8,8 @@
 //! numbers are read by functions of their own, each with a definition of its bytes. Then all
 //! groups are read from a view, and all bytes passed by one `skip`.
 //!
-//! `read_sample_fields` states no `passes`. `read_sample` has its other clauses, word for word,
-//! and names the set `read_back`. Each definition is expanded only by the function that reads
-//! its bytes, and by the writer.
+//! `read_sample_fields` states no `passes`. `read_sample` has its other clauses, word for word.
+//! Each definition is expanded only by the function that reads its bytes, and by the writer.
 //!
 //! An error of `read_sample` leaves the cursor unchanged. If the header also has a version to
 //! check, add a function that calls `read_sample`, checks the version, and goes back by

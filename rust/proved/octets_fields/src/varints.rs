@@ -2,8 +2,7 @@
 //! Varints of any width.
 //!
 //! A varint of any width is stated by `BeginsVarint l w n`: the list l begins with a varint of
-//! n in w bytes. The lemma `passes_more` says that passing m bytes and then n bytes passes m +
-//! n bytes.
+//! n in w bytes.
 //!
 //! QUIC's ACK frame has four varints after its type. The checker finds no proof of `every` for
 //! a function that reads all four. So `BeginsTwo` defines what two varints are. The function

@@ -72,9 +72,9 @@ pub fn write_message(cursor: &mut OctetsMut<'_>, message: &Message<'_>) -> Resul
 
 // A kind may also be a varint of any width, as the type of an HTTP/3 frame. Then state each clause by
 // `BeginsVarint`. State what follows the varint by its position in `drop w (rest cursor.old)`, where
-// w is the width. The clauses need the lemma `passes_more`. Those below only say which messages are
-// read. In a parser of your own also say when each error is returned, and that the view is at its
-// start, as the clauses of `read_message` do.
+// w is the width. The clauses below only say which messages are read. In a parser of your own also
+// say when each error is returned, and that the view is at its start, as the clauses of
+// `read_message` do.
 
 /// Reads a message whose kind is a varint of any width.
 #[inline]
