@@ -15,7 +15,7 @@ ghost use Rattle.octets_formats.specs.Params.{BeginsParam, LacksParam};
 use octets::{Octets, Result};
 
 /// Reads the id and the value of a parameter.
-#[tactic(auto, using(octets::proofs::CallerLemmas::passes_more), unfolding(crate::specs::Params::BeginsParam))]
+#[tactic(auto, unfolding(crate::specs::Params::BeginsParam))]
 fn read_param<'a>(cursor: &mut Octets<'a>) -> Result<(u64, Octets<'a>)>
     ensures value { IfOk result (λ p. (n : ℕ) × BeginsParam (rest cursor.old) p.0 (bytes p.1) n
         × (position p.1 ≡ 0) × Passes cursor.old cursor.new n) }

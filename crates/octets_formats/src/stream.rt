@@ -143,7 +143,7 @@ fn read_if(cursor: &mut Octets<'_>, is_there: bool, absent: u64) -> Result<u64>
 }
 
 /// Reads data after their length, or all bytes that remain if there is no length.
-#[tactic(auto, using(octets::proofs::CallerLemmas::spelled, octets::proofs::CallerLemmas::written), unfolding(crate::specs::StreamFrames::optional))]
+#[tactic(auto, unfolding(crate::specs::StreamFrames::optional))]
 fn read_data<'a>(
     cursor: &mut Octets<'a>,
     has_len: bool,

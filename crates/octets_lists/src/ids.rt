@@ -38,7 +38,7 @@ pub fn write_ids(cursor: &mut OctetsMut<'_>, ids: &[u64]) -> Result<()>
 // cursor.get_u32()?; }`; the invariant then has `l.id-index` in place of `l.i`.
 
 /// Reads n numbers into the first n elements of `out`.
-#[tactic(auto, using(octets::proofs::CallerLemmas::spelled, std::proofs::lemmas::List::flat_map_more), unfolding(octets::specs::Cursor::Reads))]
+#[tactic(auto, unfolding(octets::specs::Cursor::Reads))]
 pub fn read_ids_into(cursor: &mut Octets<'_>, n: usize, out: &mut [u32]) -> Result<()>
     ensures fits { IsOk result ↔ ((n ≤ length out.old) × (4 * n ≤ length (rest cursor.old))) }
     ensures values { OnOk result ((k : ℕ) → k < n

@@ -75,7 +75,6 @@ pub fn get_string_into(cursor: &mut Octets<'_>, out: &mut [u8]) -> Result<usize,
 /// assert!(read_string_into(&mut cursor, &mut [0], &mut fault).is_err());
 /// assert!(fault == ValueError::Text(IntoError::NoRoom));
 /// ```
-#[tactic(auto, using(crate::proofs::Refusals::begun))]
 pub fn read_string_into(
     cursor: &mut Octets<'_>,
     out: &mut [u8],
@@ -128,7 +127,6 @@ fn read_value_into(
 }
 
 /// Writes the value of Huffman-encoded data into `out`.
-#[tactic(auto, using(crate::proofs::Values::values))]
 fn decoded_into(content: &[u8], out: &mut [u8], fault: &mut ValueError) -> Option<usize>
     ensures value { IfSome result (λ n. (v : List ℕ) × IsValue true content.now (length out.old) v
         × (length v ≡ n) × (out.new ≡ v ++ drop n out.old)) }
