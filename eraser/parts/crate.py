@@ -2,33 +2,16 @@
 
 import re
 import tomllib
-from collections import Counter
 from dataclasses import dataclass
 from pathlib import Path
 
 from .names import Names, names_of
 from .conditions import TWIN
 from .source import EXAMPLE, EXPORT, Refused, Source
-from .tokens import tokens_of
 
-KEYS = {"name", "version", "license", "description", "checks", "measures", "replace", "usize_of_32_bits", "exports"}
+KEYS = {"name", "version", "license", "description", "checks", "measures", "usize_of_32_bits", "exports"}
 TEST_MODULE = re.compile(r"#\[cfg\(test\)\]\s*(?:pub(?:\([^)]*\))?\s+)?mod\s+(\w+)\s*;")
 STD_NAMES = Path(__file__).with_name("std_names.txt")
-
-
-@dataclass
-class Replacement:
-    """Lines that package.toml has written otherwise, by their tokens, with the reason."""
-
-    file: str
-    said: str
-    old: list
-    new: str
-    why: str
-
-    @property
-    def count(self):
-        return len(self.old)
 
 
 @dataclass
@@ -62,7 +45,6 @@ class Crate:
         self.is_program = (self.folder / "src/main.rt").exists()
         self.settings = self.read_settings()
         self.measures = dependency_measures | measures_of(self.settings)
-        self.replacements = [self.replacement(each) for each in self.settings.get("replace", [])]
         self.paths = sorted((self.folder / "src").rglob("*.rt"))
         texts = {path: path.read_bytes().decode() for path in self.paths}
         self.texts, self.test_paths = texts, test_paths(texts)
@@ -74,7 +56,7 @@ class Crate:
         self.names.add(dependency_names)
         self.std_names = {name: mark or traits for mark, name, traits in re.findall(r"(\*?)(\w+):?(\S*)", STD_NAMES.read_text())}
         self.names_io = self.names_any("io")
-        self.method_twins, self.function_twins, self.used = set(), set(), Counter()
+        self.method_twins, self.function_twins = set(), set()
         self.sources = {}
 
     def names_any(self, words):
@@ -92,29 +74,13 @@ class Crate:
             raise Refused(f"{path}: the key {sorted(unknown)[0]!r} isn't known: it may have {', '.join(sorted(KEYS))}")
         return settings
 
-    def replacement(self, entry):
-        if entry.keys() != {"file", "old", "new", "why"}:
-            raise Refused(f"{self.folder / 'package.toml'}: a replacement has file, old, new and why")
-        old = [token.text for token in tokens_of(entry["old"])][:-1]
-        return Replacement(entry["file"], entry["old"], old, entry["new"], entry["why"])
-
-    def replacement_at(self, source):
-        """The replacement of the lines that come next, if there is one."""
-        return next((each for each in self.replacements
-                     if source.path.match(each.file) and source.words(each.count) == each.old), None)
-
     def erase(self):
         """The erased text of each file, by its place in the package. It is read twice: first for what it requires."""
         for _ in range(2):
-            self.used.clear()
             self.sources = {path: self.erase_file(path) for path in self.paths}
             if errors := [each for source in self.sources.values() for each in source.errors]:
                 raise Refused("\n".join(dict.fromkeys(errors)))
             self.find_twins()
-        for each in self.replacements:
-            if self.used[each.file, each.new] != 1:
-                raise Refused(f"{self.folder / 'package.toml'}: {each.file} has {' '.join(each.old)!r} "
-                              f"{self.used[each.file, each.new]} times, not once")
         return {path.relative_to(self.folder).with_suffix(".rs").as_posix(): finished(source)
                 for path, source in self.sources.items()}
 

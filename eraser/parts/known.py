@@ -163,8 +163,7 @@ WORDS = {
     "f32": "a cast of a float means another thing in Rust: use integers",
     "f64": "a cast of a float means another thing in Rust: use integers",
     "union": "declare a struct or an enum",
-    "unsafe": "the erased text has no `unsafe`: write the function over slices, or name the lines and what replaces "
-              "them in the crate's package.toml",
+    "unsafe": "the erased text has no `unsafe`: write the function over slices",
     "RangeFrom": "a range with no end ends before the type's largest value in Rattle, and goes past it in Rust",
     "Box": "allocating a `Box` can't fail with an error in Rust: use a `Vec` with one element",
     "DoubleEndedIterator": "`impl Iterator` alone is known",

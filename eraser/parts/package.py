@@ -128,7 +128,7 @@ def readme(crate, functions):
     """README.md: what the package is, and the conditions of its public functions."""
     text = [f"# {crate.package}", "",
             f"This is the source of the Rattle crate `{crate.name}`, with its contracts erased: plain Rust, written by `tools/erase`. "
-            f"Each function has the text that Rattle's checker proves{', except for the lines that are named below' if crate.replacements else ''}. "
+            "Each function has the text that Rattle's checker proves. "
             "`tools/erase` doesn't run the checker: `rt ci` does, over the sources that Cargo.toml names."]
     public = [(path, each) for path, each in functions if each.is_public]
     if public and not crate.is_program:
@@ -146,7 +146,4 @@ def readme(crate, functions):
                 text.append(f"| `{each.name}` ({place}) | {said}`{clause.replace('|', chr(92) + '|')}` | "
                             f"{'yes' if is_checked else 'no'} |")
     text += invariants(crate)
-    for each in crate.replacements:
-        done = f"wrote `{each.new}` in place of" if each.new else "left out"
-        text += ["", f"In `{each.file}` the eraser {done} `{each.said}`: {each.why}"]
     return "\n".join(text) + "\n"

@@ -134,10 +134,7 @@ class Source:
     # Tokens.
 
     def take(self):
-        """Writes the next token, or what replaces it in Rust."""
-        if replacement := self.crate.replacement_at(self):
-            self.crate.used[replacement.file, replacement.new] += 1
-            return self.emit(replacement.new, replacement.count)
+        """Writes the next token, or what becomes of it in Rust."""
         token, word = self.tokens[self.at], self.word()
         if token.kind == "none":
             self.fail(f"{word!r} begins no token of Rust")
@@ -412,8 +409,6 @@ class Source:
     def item(self):
         if self.word() == "ghost" or self.is_public_ghost():
             return self.ghost()
-        if self.crate.replacement_at(self):
-            return self.take()
         self.documentation = "".join(re.findall(r"(?m)^ *///[^\n]*\n", self.tokens[self.at].before))
         attributes, begin = [], len(self.out)
         while self.word() == "#":

@@ -4,8 +4,6 @@ ghost use Rattle.std.specs.Prelude.{◌≡◌, ◌+◌, ◌≤◌, ◌<◌, ◌^
 ghost use Rattle.std.specs.Borrow.{sem, Lends, Array, u8 as byte};
 ghost use Rattle.octets.specs.Bytes.{splice, part};
 
-use std::slice::from_raw_parts_mut;
-
 /// A buffer that a cursor can read: it has fewer than 2 to the power 63 bytes, and exposes all of
 /// them as a slice.
 pub trait Bytes: Drop {
@@ -112,10 +110,6 @@ impl<'a> Bytes for &'a mut [u8] {
 
 impl<'a> Buffer for &'a mut [u8] {
     fn part_mut(&mut self, from: usize, len: usize) -> &mut [u8] {
-        let p = self.as_mut_ptr();
-        // SAFETY: the clause `requires` says that the range lies within the slice. So the pointer
-        // stays within the slice, `len` bytes follow it, and they are borrowed for as long as
-        // `self` is.
-        unsafe { from_raw_parts_mut(p.add(from), len) }
+        &mut self[from..][..len]
     }
 }

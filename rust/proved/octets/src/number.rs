@@ -11,7 +11,12 @@ use crate::error::{BufferTooShortError, Result};
 /// - `from ≤ length bytes.now`
 #[inline(always)]
 fn chunk<const N: usize>(bytes: &[u8], from: usize) -> Result<&[u8; N]> {
-    match bytes.get(from..from + N).and_then(|part| part.first_chunk::<N>()) {
+    // `from` is never past the end, but rustc can't know that. After this comparison it leaves out
+    // the bounds checks below.
+    if from > bytes.len() || bytes.len() - from < N {
+        return Err(BufferTooShortError);
+    }
+    match bytes[from..].first_chunk::<N>() {
         Some(found) => Ok(found),
         None => Err(BufferTooShortError),
     }

@@ -1,6 +1,7 @@
 -- The proof opens the outer reference, cuts the slice after it at two places, and lends its middle. The whole
 -- slice follows the range that was lent.
 use Rattle.octets.proofs.loans
+use loans.WalkSteps.{arith, ◌-◌}
 use loans.WalkSteps.{ℕ, ◌+◌, ◌*◌, ◌^◌, ◌<◌, ◌≤◌, List, [], ◌∷◌, length, take, refl, w64, MutBor, proved, full_share}
 use loans.WalkSteps.{ftrue, fat, use1, flft, named, Val, vint, fact, tables, ‵, raw, ◌⊛◌, some, later, at_ret, ◌$◌}
 use loans.WalkSteps.{◌∵◌, !, qed, done, move, keep, drop, use2, use3, split, split3, join, fsplit, fsplit3, fjoin}
@@ -12,6 +13,8 @@ use loans.WalkSteps.{plain, mut_slice_of, nothing, heard, opens, closes, Stays, 
 use loans.WalkSteps.{Goes-dropped, Goes-spent_ref, ends_at}
 use lib.ListN.{drop as drop_list}
 use types.Kit.{flt_l, flt_i, fjoin3}
+use types.Run.{load, from}
+use types.ByLocal.{get_in, look_in_at}
 use mir.Syntax.{Ty, ty_int, ty_ref, erased, mut, w8}
 use denote.Slice.{slice_ty}
 use mir.Raw.{raw as raw_ty}
@@ -59,12 +62,21 @@ part_mut_spec 𝓤 𝓛 𝓜 𝓡 wired =
     (retype 𝓛 full_share (raw_ty Ref) Ref refl b o (slice_val h.ref_ptr (length xs))) $
     -- [the inner slice's cell; its obs and borrow; the outer borrow,
     -- open; obs; auth; the token of κ'; the numbers; the locals]
-    sets ! (addr ! (through ! refl (fld ! refl (hop ! (look_in ! 0 (sub ! 0 refl (whole !))) (stop !))))) refl (tt, tt)
-    $ first ! $ blocks ! $
-    sets ! (bin ! (get ! refl) (get ! refl) tt) refl (tt, tt) $ sets_last ! (agg !
-    (and_then ! (get ! refl) (and_then ! (get ! refl) (no_more !)))) refl (tt, (tt, (record { fits = fn }, tt))) $
-    exec ! 𝓣.C 𝓣.Λ (env code.Mir.locals l) code.Mir.t-3 (at_ret _ (W.post y))
-    $ sets ! (of_opd ! (get ! refl)) refl (tt, (tt, (record { fits = fn }, tt))) $
+    let left : length xs - i < 2 ^ 64 = omega (arith, fits) in
+    sets ! (of_opd ! (load ! (through ! refl (fld ! refl (stop !))) (look_in ! 0 (sub ! 1 refl (whole !))))) refl
+    (tt, record { fits = fits }) $
+    sets ! (addr ! (through ! refl (fld ! refl (hop ! (look_in ! 0 (sub ! 0 refl (whole !))) (stop !))))) refl (tt, tt) $
+    sets ! (agg ! (and_then ! (get ! refl) (and_then ! (get ! refl) (no_more !)))) refl
+    (tt, (tt, (record { fits = fits }, tt))) $
+    sets ! (bin ! (get_in ! (fld ! refl (stop !)) (sub ! 0 refl (whole !))) (get ! refl) tt) refl (tt, tt) $
+    sets ! (bin ! (get_in ! (fld ! refl (stop !)) (sub ! 1 refl (whole !))) (get ! refl) (omega (arith, le))) refl
+    (tt, record { fits = left }) $
+    sets ! (addr ! (through ! refl (stop !))) refl (tt, tt) $
+    sets ! (agg ! (and_then ! (get ! refl) (and_then ! (get ! refl) (no_more !)))) refl
+    (tt, (tt, (record { fits = left }, tt))) $
+    sets ! (addr ! (from ! (fld ! refl (hop ! (look_in_at ! 10 (sub ! 0 refl (whole !))) (stop !))))) refl (tt, tt) $
+    sets ! (agg ! (and_then ! (get ! refl) (and_then ! (get ! refl) (no_more !)))) refl
+    (tt, (tt, (record { fits = fn }, tt))) $
     use1 𝓛 (‵ (cell_at full_share S.mir (mut_slice_vals h) b o))
     (retype 𝓛 full_share Ref (raw_ty Ref) refl b o (slice_val h.ref_ptr (length xs))) $ move ! (1 ∷ 2 ∷ []) $
     flt_i ! (length xs * (mem u8).size) (2 ^ 63) small $ flt_i ! (length xs) (2 ^ 64) fits
