@@ -15,16 +15,9 @@ pub(crate) const fn held(v: u64) -> u64 {
 /// fewer than `len` bytes remain. It panics if enough bytes remain and `len` isn't 1, 2, 4 or 8.
 #[cold]
 pub(crate) fn put_low_bytes<'b>(cursor: &'b mut OctetsMut<'_>, v: u64, len: usize) -> Result<&'b mut [u8]> {
-    if cursor.cap() < len {
-        return Err(BufferTooShortError);
-    }
-    let (written, mark) = match len {
-        1 => (cursor.put_u8(v as u8)?, 0),
-        2 => (cursor.put_u16(v as u16)?, 0x40),
-        4 => (cursor.put_u32(v as u32)?, 0x80),
-        8 => (cursor.put_u64(v)?, 0xc0),
+    match len {
+        1 | 2 | 4 | 8 => cursor.put_marked(v, len),
+        _ if cursor.cap() < len => Err(BufferTooShortError),
         _ => panic!("value is too large for varint"),
-    };
-    written[0] |= mark;
-    Ok(written)
+    }
 }

@@ -18,3 +18,4 @@ pub mod Windows
 pub mod Decodes
 pub mod Laws
 pub mod ErrorTexts
+pub mod Marked

@@ -8,6 +8,7 @@ ghost use Rattle.std.specs.Prelude.{take, drop, IsOk, IfOk, ◌++◌, MatchOptio
 ghost use Rattle.std.specs.Borrow.{sem, LendsBothIf, Array, u8 as byte};
 ghost use Rattle.octets.specs.Bytes.{network};
 ghost use Rattle.octets.specs.Varints.{IsWidth, shortest, varint};
+ghost use Rattle.octets.specs.Marked.{marked};
 ghost use Rattle.octets.specs.Loans.{Viewed, BothViewed};
 
 mod followed;
@@ -331,6 +332,18 @@ impl<'a> OctetsMut<'a> {
         ensures shows { IfOk result (λ r. r.now ≡ varint len v) }
     {
         let part = self.part_of_varint_with_len(v, len);
+        self.lend_part(part)
+    }
+
+    /// Writes the lowest `len` bytes of `v`, with the mark of the width over the top two bits, moves
+    /// the offset past them, and lends these bytes for writing. `len` must be 1, 2, 4 or 8.
+    pub fn put_marked(&mut self, v: u64, len: usize) -> Result<&mut [u8]>
+        requires { IsWidth len }
+        ensures* writes_back { sem 𝓛 (LendsPut self.entry (network len (marked len v)) len result) }
+        ensures fits { IsOk result ↔ (len ≤ length (rest self.old)) }
+        ensures shows { IfOk result (λ r. r.now ≡ network len (marked len v)) }
+    {
+        let part = self.part_of_marked(v, len);
         self.lend_part(part)
     }
 }

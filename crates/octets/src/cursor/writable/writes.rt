@@ -3,6 +3,7 @@ ghost use Rattle.std.specs.Prelude.{◌≡◌, ◌↔◌, ◌+◌, ◌-◌, ◌*
 ghost use Rattle.std.specs.Prelude.{◌≤◌, length, IsOk, IfOk, OnErr};
 ghost use Rattle.octets.specs.Bytes.{network, splice};
 ghost use Rattle.octets.specs.Varints.{IsWidth, shortest, varint};
+ghost use Rattle.octets.specs.Marked.{marked};
 
 use crate::copies::copy;
 use crate::cursor::Cursor;
@@ -218,6 +219,26 @@ impl<B: Buffer> Cursor<B> {
             2 => self.write_u16(v as u16 + 0x4000),
             4 => self.write_u32(v as u32 + 0x8000_0000),
             _ => self.write_u64(v + 0xc000_0000_0000_0000),
+        }
+    }
+
+    /// Writes the lowest `len` bytes of `v`, with the mark of the width over the top two bits. `len`
+    /// must be 1, 2, 4 or 8. If a varint of `len` bytes holds `v`, it is that varint.
+    pub fn write_marked(&mut self, v: u64, len: usize) -> Result<()>
+        requires { IsWidth len }
+        ensures fits { IsOk result ↔ (len ≤ length (rest self.old)) }
+        ensures writes { IfOk result (λ _. Writes self.old self.new (network len (marked len v))) }
+        ensures past { IfOk result (λ _. position self.new ≡ position self.old + len) }
+        ensures bytes { IfOk result (λ _. bytes self.new
+            ≡ splice (bytes self.old) (position self.old) (network len (marked len v))) }
+        ensures unchanged { OnErr result (IsUnchanged self.old self.new) }
+        ensures keeps { Keeps self.old self.new }
+    {
+        match len {
+            1 => self.write_u8((v % 0x100) as u8),
+            2 => self.write_u16((v % 0x1_0000) as u16 | 0x4000),
+            4 => self.write_u32((v % 0x1_0000_0000) as u32 | 0x8000_0000),
+            _ => self.write_u64(v | 0xc000_0000_0000_0000),
         }
     }
 

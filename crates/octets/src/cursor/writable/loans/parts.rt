@@ -6,6 +6,7 @@
 ghost use Rattle.std.specs.Prelude.{◌↔◌, ◌+◌, ◌-◌, ◌*◌, ◌^◌, ◌<◌, ◌≤◌, length, IsOk};
 ghost use Rattle.octets.specs.Bytes.{network};
 ghost use Rattle.octets.specs.Varints.{IsWidth, shortest, varint};
+ghost use Rattle.octets.specs.Marked.{marked};
 
 use crate::cursor::writable::OctetsMut;
 use crate::error::{BufferTooShortError, Result};
@@ -132,6 +133,18 @@ impl<'a> OctetsMut<'a> {
     {
         let from = self.off;
         self.write_varint_with_len(v, len)?;
+        Ok(Part { from, len })
+    }
+
+    /// Writes the lowest `len` bytes of `v` with the mark of the width, moves the offset past them,
+    /// and returns their range. `len` must be a width.
+    pub(crate) fn part_of_marked(&mut self, v: u64, len: usize) -> Result<Part>
+        requires { IsWidth len }
+        ensures fits { IsOk result ↔ (len ≤ length (rest self.old)) }
+        ensures leaves { LeavesPut self.old self.new result (network len (marked len v)) len }
+    {
+        let from = self.off;
+        self.write_marked(v, len)?;
         Ok(Part { from, len })
     }
 }

@@ -298,4 +298,25 @@ impl<'a> OctetsMut<'a> {
         let part = self.part_of_varint_with_len(v, len);
         self.lend_part(part)
     }
+
+    /// Writes the lowest `len` bytes of `v`, with the mark of the width over the top two bits, moves
+    /// the offset past them, and lends these bytes for writing. `len` must be 1, 2, 4 or 8.
+    ///
+    /// # Requires
+    ///
+    /// - `IsWidth len`
+    #[inline]
+    #[track_caller]
+    pub fn put_marked(&mut self, v: u64, len: usize) -> Result<&mut [u8]> {
+        #[cfg(feature = "checked")]
+        ::core::assert!(matches!(len, 1 | 2 | 4 | 8), "`put_marked` requires `IsWidth len`");
+        self.put_marked_unchecked(v, len)
+    }
+
+    #[doc(hidden)]
+    #[inline]
+    pub fn put_marked_unchecked(&mut self, v: u64, len: usize) -> Result<&mut [u8]> {
+        let part = self.part_of_marked(v, len);
+        self.lend_part(part)
+    }
 }

@@ -166,6 +166,31 @@ impl<B: Buffer> Cursor<B> {
         }
     }
 
+    /// Writes the lowest `len` bytes of `v`, with the mark of the width over the top two bits. `len`
+    /// must be 1, 2, 4 or 8. If a varint of `len` bytes holds `v`, it is that varint.
+    ///
+    /// # Requires
+    ///
+    /// - `IsWidth len`
+    #[inline]
+    #[track_caller]
+    pub fn write_marked(&mut self, v: u64, len: usize) -> Result<()> {
+        #[cfg(feature = "checked")]
+        ::core::assert!(matches!(len, 1 | 2 | 4 | 8), "`write_marked` requires `IsWidth len`");
+        self.write_marked_unchecked(v, len)
+    }
+
+    #[doc(hidden)]
+    #[inline]
+    pub fn write_marked_unchecked(&mut self, v: u64, len: usize) -> Result<()> {
+        match len {
+            1 => self.write_u8((v % 0x100) as u8),
+            2 => self.write_u16((v % 0x1_0000) as u16 | 0x4000),
+            4 => self.write_u32((v % 0x1_0000_0000) as u32 | 0x8000_0000),
+            _ => self.write_u64(v | 0xc000_0000_0000_0000),
+        }
+    }
+
     /// Writes `v` as a varint of the least width that holds it (RFC 9000, section 16). `v` must be
     /// below 2 to the power 62.
     ///

@@ -111,4 +111,17 @@ impl<'a> OctetsMut<'a> {
         self.write_varint_with_len_unchecked(v, len)?;
         Ok(Part { from, len })
     }
+
+    /// Writes the lowest `len` bytes of `v` with the mark of the width, moves the offset past them,
+    /// and returns their range. `len` must be a width.
+    ///
+    /// # Requires
+    ///
+    /// - `IsWidth len`
+    #[inline]
+    pub(crate) fn part_of_marked(&mut self, v: u64, len: usize) -> Result<Part> {
+        let from = self.off;
+        self.write_marked_unchecked(v, len)?;
+        Ok(Part { from, len })
+    }
 }
