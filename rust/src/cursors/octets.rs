@@ -4,7 +4,7 @@ use crate::Result;
 use octets_verified as proved;
 
 #[cfg(feature = "huffman_hpack")]
-use {crate::BufferTooShortError, alloc::vec::Vec};
+use {crate::memory, alloc::vec::Vec, proved::DecodeError, rattle_std::alloc::Global};
 
 impl<'a> Octets<'a> {
     /// Makes a cursor over `buf`, with the offset 0.
@@ -81,21 +81,11 @@ impl<'a> Octets<'a> {
     /// ```
     #[cfg(feature = "huffman_hpack")]
     #[inline]
-    #[expect(
-        clippy::slow_vector_initialization,
-        reason = "`vec![0; room]` calls `calloc`, which takes longer if few bytes are needed"
-    )]
     pub fn get_huffman_decoded_with_max_length(&mut self, max_len: usize) -> Result<Vec<u8>> {
-        // A code has at least five bits, so no value has more than two bytes for each byte of its encoding.
-        let room = self.cap().saturating_mul(2).min(max_len);
-        let mut value = Vec::with_capacity(room);
-        value.resize(room, 0);
-        match self.0.get_huffman_decoded_into(&mut value) {
-            Ok(len) => {
-                value.truncate(len);
-                Ok(value)
-            }
-            Err(_) => Err(BufferTooShortError),
+        match self.0.get_huffman_decoded_with_max_length(Global, max_len) {
+            Ok(value) => Ok(value.into()),
+            Err(DecodeError::Short(short)) => Err(short),
+            Err(DecodeError::Memory(_)) => memory::exhausted(self.cap().saturating_mul(2).min(max_len)),
         }
     }
 }
