@@ -7,8 +7,7 @@ This is also so if only traits have it that have to be imported (the list names 
 """
 
 from . import known
-from .conditions import TWIN
-from .known import FUNCTIONS, INSTEAD, INTEGERS, METHODS, OWN, PATHS, RENAMED, RENAMED_WITH_ARGUMENTS, WORDS
+from .known import FUNCTIONS, INSTEAD, INTEGERS, METHODS, OURS, OWN, PATHS, RENAMED, RENAMED_WITH_ARGUMENTS, WORDS
 
 # Functions of a type that isn't a name, and what to write.
 CONVERSIONS = {("<>", "try_from"): "write `x.try_into()`", ("<>", "from"): "write `x.into()`"}
@@ -58,7 +57,7 @@ def check_method(source, word):
     check_stop(source, word)
     if word in INSTEAD:
         source.fail(f"the method {word!r} isn't known", INSTEAD[word])
-    if word in METHODS - (known.OTHERWISE_OF_IO if source.crate.names_io else set()) | OWN | RENAMED.keys():
+    if word in METHODS - (known.OTHERWISE_OF_IO if source.crate.names_io else set()) | OWN | RENAMED:
         return
     if word not in names.methods | names.trait_methods:
         source.fail(f"the method {word!r} isn't known", known.OTHERWISE)
@@ -134,8 +133,7 @@ def check_path(source):
 
 
 def use(source):
-    """Writes a `use`, whose leaves are known. A function with an unchecked twin brings it along, and `Model`, which only
-    contracts use, is left out."""
+    """Writes a `use`, whose leaves are known. `Model`, which only contracts use, is left out."""
     if source.begins(f"use {MODEL.replace('::', ' :: ')} ;"):
         return source.drop(7)
     end = source.at
@@ -149,10 +147,7 @@ def use(source):
     while source.word() != ";":
         word = source.word()
         is_leaf = source.word(1) in (",", "}", ";") and source.tokens[source.at].kind == "word"
-        if is_leaf and word in source.crate.function_twins:
-            twin = f"{word}, {word}{TWIN}"
-            source.emit(twin if source.word(-1) in ("{", ",") else f"{{{twin}}}")
-        elif is_leaf and word == "Model" and MODEL in paths:
+        if is_leaf and word == "Model" and MODEL in paths:
             source.drop(1 + (source.word(1) == ","))
         else:
             source.take_plain(1)
@@ -202,17 +197,11 @@ def check_leaf(source, path):
 
 
 def written(source, word):
-    """The word as it is in Rust: a call that rattle_std has under another name, or one of an unchecked twin."""
-    before, after = source.word(-1), source.word(1)
-    if after not in ("(", "::") or after == "::" and source.word(2) != "<":
+    """The word as it is in Rust: the method that is called has another name in rattle_std."""
+    is_called = source.word(1) == "(" or source.word(1) == "::" and source.word(2) == "<"
+    if source.word(-1) != "." or not is_called or word in RENAMED_WITH_ARGUMENTS and source.word(2) == ")":
         return word
-    if before == ".":
-        if word in RENAMED_WITH_ARGUMENTS and source.word(2) == ")":
-            return word
-        return RENAMED.get(word) or (word + TWIN if word in source.crate.method_twins else word)
-    if before != "fn" and word in source.crate.function_twins:
-        return word + TWIN
-    return word
+    return OURS + word if word in RENAMED else word
 
 
 def check_impl(source):

@@ -1,15 +1,15 @@
 """What becomes of a `requires`: a line of documentation, and where Rust can say it, a check at the function's head.
 
 A proof showed the condition at each call from verified code, and a caller in Rust isn't asked for one. So a public
-function whose condition is understood here becomes two: one that checks and then calls the other, and the other, hidden
-and named `.._unchecked`, which erased code calls. The check is there with the feature `checked`.
+function whose condition is understood here begins with a check of it, which is there with the feature `checked`. The calls
+of erased code are those of the source: to send them past the check, the eraser would have to know what each name means.
 """
 
 import re
 
+from .known import OURS
 from .tokens import tokens_of
 
-TWIN = "_unchecked"
 COMPARED = {"<": "<", "≤": "<=", "≡": "==", "≢": "!="}
 SUMS = {"+": "saturating_add", "-": "saturating_sub", "*": "saturating_mul"}
 LARGEST = 2**127
@@ -184,29 +184,22 @@ def check_of(clause, types, crate, is_const=False):
     return None if is_const and re.search(r"\.(?!saturating_)\w+\(", check) else check
 
 
-def can_be_called(function):
-    """Whether the function can be called with its own parameters: each of them has a name, or is `self`."""
-    return all("self" in words or is_named(words) for words in function.parameters)
-
-
-def is_named(words):
-    return words[1] == ":" or words[0] == "mut" and words[2] == ":"
-
-
-def twin_of(header, pad, function):
-    """The function that checks its conditions, if it has any, and then calls its twin."""
-    named = [words for words in function.parameters if "self" not in words[: words.index(":") if ":" in words else None]]
-    arguments = ", ".join(words[1] if words[0] == "mut" else words[0] for words in named)
-    owner = "self." if function.is_method else "Self::" if function.is_in_impl else ""
-    generics = f"::<{', '.join(function.generics)}>" if function.generics else ""
+def checks_of(function, pad):
+    """The lines at the head of a function's body that check its conditions."""
     lines = []
     for clause, check in function.checks:
         said = clause.replace("{", "{{").replace("}", "}}").replace('"', '\\"')
         lines += ['#[cfg(feature = "checked")]', f'::core::assert!({check}, "`{function.name}` requires `{said}`");']
-    lines.append(f"{owner}{function.twin}{generics}({arguments})")
-    body = "".join(f"{pad}    {line}\n" for line in lines)
-    caller = f"#[track_caller]\n{pad}" if function.checks else ""
-    return f"{caller}{header.rstrip()} {{\n{body}{pad}}}\n\n"
+    return "".join(f"\n{pad}    {line}" for line in lines)
+
+
+def forward_of(header, pad, function):
+    """The method under the name by which erased code calls it."""
+    names = [words[words[0] == "mut"] for words in function.parameters[1:]]
+    generics = f"::<{', '.join(function.generics)}>" if function.generics else ""
+    header = header.replace(f"fn {function.name}", f"fn {OURS}{function.name}", 1).strip()
+    return (f"\n\n{pad}#[doc(hidden)]\n{pad}#[inline]\n{pad}{header} {{\n"
+            f"{pad}    self.{function.name}{generics}({', '.join(names)})\n{pad}}}")
 
 
 def types_of(parameters):

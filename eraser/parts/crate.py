@@ -6,7 +6,6 @@ from dataclasses import dataclass
 from pathlib import Path
 
 from .names import Names, names_of
-from .conditions import TWIN
 from .source import EXAMPLE, EXPORT, Refused, Source
 
 KEYS = {"name", "version", "license", "description", "checks", "measures", "usize_of_32_bits", "exports"}
@@ -56,7 +55,6 @@ class Crate:
         self.names.add(dependency_names)
         self.std_names = {name: mark or traits for mark, name, traits in re.findall(r"(\*?)(\w+):?(\S*)", STD_NAMES.read_text())}
         self.names_io = self.names_any("io")
-        self.method_twins, self.function_twins = set(), set()
         self.sources = {}
 
     def names_any(self, words):
@@ -75,12 +73,10 @@ class Crate:
         return settings
 
     def erase(self):
-        """The erased text of each file, by its place in the package. It is read twice: first for what it requires."""
-        for _ in range(2):
-            self.sources = {path: self.erase_file(path) for path in self.paths}
-            if errors := [each for source in self.sources.values() for each in source.errors]:
-                raise Refused("\n".join(dict.fromkeys(errors)))
-            self.find_twins()
+        """The erased text of each file, by its place in the package."""
+        self.sources = {path: self.erase_file(path) for path in self.paths}
+        if errors := [each for source in self.sources.values() for each in source.errors]:
+            raise Refused("\n".join(dict.fromkeys(errors)))
         return {path.relative_to(self.folder).with_suffix(".rs").as_posix(): finished(source)
                 for path, source in self.sources.items()}
 
@@ -88,16 +84,6 @@ class Crate:
         source = Source(path, self.texts[path], self, path in self.test_paths)
         source.items("")
         return source
-
-    def find_twins(self):
-        """The functions whose calls go to unchecked twins: no other function of that name is without one."""
-        own = [each for source in self.sources.values() for each in source.functions]
-        plain = {(each.name, each.is_method) for each in own if not each.twin}
-        twins = {(each.name, each.is_method) for each in own if (each.twin or "").endswith(TWIN)}
-        below = {(name, name in self.names.methods) for name in self.names.twins - self.own_names.twins}
-        self.own_names.twins = {name for name, _ in twins - plain}
-        self.method_twins = {name for name, is_method in (twins | below) - plain if is_method}
-        self.function_twins = {name for name, is_method in (twins | below) - plain if not is_method}
 
     def macros_of(self, place):
         """The macros of rattle_std that an erased file calls."""

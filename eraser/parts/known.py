@@ -54,23 +54,12 @@ OTHERWISE_OF_IO = {"kind"}
 # Methods that take a range as a place in a list, and iterate over none.
 RANGE_TAKERS = set("copy_within get get_mut slice_mut".split())
 
-# Methods that rattle_std has under the name on the right: in Rattle they take an allocator or the runtime, or, `zip`, step
-# otherwise.
-RENAMED = {
-    "collect": "collect_in",
-    "expect": "expect_or_stop",
-    "expect_err": "expect_err_or_stop",
-    "lines": "lines_in",
-    "read_line": "read_line_in",
-    "read_to_end": "read_to_end_in",
-    "read_to_string": "read_to_string_in",
-    "repeat": "repeat_in",
-    "to_owned": "to_owned_in",
-    "to_string": "to_string_in",
-    "to_vec": "to_vec_in",
-    "try_collect": "try_collect_in",
-    "zip": "zip_in_turn",
-}
+# Methods that rattle_std has under the name with `rattle_` before it, which std won't ever have: in Rattle they take an
+# allocator or the runtime, or, `zip`, step otherwise. No source has a name that begins so.
+RENAMED = set("""
+    collect expect expect_err lines read_line read_to_end read_to_string repeat to_owned to_string to_vec try_collect zip
+""".split())
+OURS = "rattle_"
 
 # Of these the call with no argument is another method, which means the same in Rust.
 RENAMED_WITH_ARGUMENTS = {"lines"}

@@ -2,7 +2,6 @@
 
 from dataclasses import dataclass, field
 
-from .conditions import TWIN
 from .known import FUNCTIONS
 from .tokens import tokens_of
 
@@ -12,7 +11,7 @@ TYPES = STRUCTURES | {"type"}
 
 @dataclass
 class Names:
-    """What a crate, or several, define. A method is a function with `self`; an unchecked one is a twin (conditions.py).
+    """What a crate, or several, define. A method is a function with `self`.
 
     `declared` has pairs of a trait and a method of it, and `implemented` pairs of a trait and a type that has it. `fields`
     has public fields: the structure, the field and its type.
@@ -29,7 +28,6 @@ class Names:
     traits: set = field(default_factory=set)
     modules: set = field(default_factory=set)
     macros: set = field(default_factory=set)
-    twins: set = field(default_factory=set)
 
     def add(self, other):
         for each, names in vars(other).items():
@@ -123,8 +121,6 @@ def add_function(names, words, at, in_trait):
         names.trait_methods.add(name)
     else:
         names.methods.add(name)
-    if name.endswith(TWIN):
-        names.twins.add(name.removesuffix(TWIN))
 
 
 def has_self(words, at):

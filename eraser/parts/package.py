@@ -135,13 +135,13 @@ def readme(crate, functions):
         text += ["", "## Conditions on callers", "",
                  "Rattle's checker proves these conditions at each call in Rattle. A caller in Rust has to meet them. " + (
                      "With the feature `checked`, which is on by default, a function checks those marked \"yes\" and panics if one "
-                     "doesn't hold." if any(check and each.twin for _, each in public for _, check in each.conditions)
+                     "doesn't hold." if any(each.checks for _, each in public)
                      else "No function checks them."),
                  "", "| Function | Condition | Checked |", "|---|---|---|"]
         for path, each in public:
             place = path.relative_to(crate.folder / "src").with_suffix("").as_posix()
             for clause, check in each.conditions:
-                is_checked = check and each.twin
+                is_checked = (clause, check) in each.checks
                 said = "" if is_checked else in_words(clause, each.documentation)
                 text.append(f"| `{each.name}` ({place}) | {said}`{clause.replace('|', chr(92) + '|')}` | "
                             f"{'yes' if is_checked else 'no'} |")

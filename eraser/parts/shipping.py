@@ -9,6 +9,7 @@ from pathlib import Path
 
 from . import c_library, package
 from .crate import Crate, listed_crates, measures_of
+from .known import OURS
 from .names import Names, names_of
 from .source import Refused
 
@@ -47,6 +48,8 @@ def in_order(names, listed):
     def visit(name):
         if name not in listed:
             raise Refused(f"crates.txt has no crate {name!r}")
+        if name.startswith(OURS):
+            raise Refused(f"the crate {name!r} has the name of a package of rust/: rename yours")
         for each in listed[name].dependencies:
             if each in names:
                 visit(each)
@@ -85,13 +88,10 @@ def is_erased(folder, name):
 
 
 def names_of_package(folder):
-    """The names that an erased package defines. A twin isn't called if another function of its name has none."""
-    names, plain = Names(), set()
+    """The names that an erased package defines."""
+    names = Names()
     for path in (folder / "src").rglob("*.rs"):
-        own = names_of(path.read_text())
-        names.add(own)
-        plain |= {name for name in own.functions | own.methods if name not in own.twins}
-    names.twins -= plain
+        names.add(names_of(path.read_text()))
     return names
 
 

@@ -4,7 +4,7 @@ import re
 from dataclasses import dataclass, field
 
 from . import calls, conditions
-from .known import ATTRIBUTES, DERIVES, GONE_ATTRIBUTES, HOSTED_NAMES, RANGE_TAKERS, RENAMED, REPRS, WORDS
+from .known import ATTRIBUTES, DERIVES, GONE_ATTRIBUTES, HOSTED_NAMES, OURS, RANGE_TAKERS, RENAMED, REPRS, WORDS
 from .names import angles_end
 from .tokens import CLOSE, END, OPEN, tokens_of
 
@@ -29,9 +29,8 @@ class Function:
     is_public: bool
     parameters: list
     generics: list
-    is_in_impl: bool
+    is_checked: bool
     conditions: list = field(default_factory=list)
-    twin: str | None = None
     result: str | None = None
     documentation: str = ""
 
@@ -45,7 +44,7 @@ class Function:
 
     @property
     def checks(self):
-        return [(clause, check) for clause, check in self.conditions if check]
+        return [(clause, check) for clause, check in self.conditions if check and self.is_checked]
 
 
 class Source:
@@ -63,6 +62,10 @@ class Source:
                 line = 1 + text.count("\n", 0, one.at)
                 raise Refused(f"{path}:{line}: `{one.text}{other.text}` begins or ends a comment in a contract, and such comments "
                               "aren't known: write `//` before the clause, and a blank between two signs in code")
+        if ours := next((each for each in self.tokens if each.text.startswith(OURS)), None):
+            line = 1 + text.count("\n", 0, ours.at)
+            raise Refused(f"{path}:{line}: the name {ours.text!r} isn't known: names that begin with `{OURS}` are those of rattle_std: "
+                          "rename yours")
         self.refuse_in_contracts()
         self.generic_names = generics_of(self.tokens)
         self.functions, self.exports, self.macros = [], [], set()
@@ -202,6 +205,8 @@ class Source:
 
     def check_word(self, word):
         before, after = self.word(-1), self.word(1)
+        if before == "fn" and word in RENAMED and self.stack:
+            self.fail(f"a function {word!r} within a body or a macro isn't known", "std has one that allocates: rename yours")
         if word in WORDS and not (before in (".", "::") and after in ("(", "::")) and before != "fn":
             self.fail(f"{word!r} isn't known", WORDS[word])
         if self.tokens[self.at + 1].kind == "string" and not self.tokens[self.at + 1].before:
@@ -552,13 +557,15 @@ class Source:
         if has_clauses:
             text = self.out[body].lstrip()
             self.out[body] = f" {text}" if text[:1] == "{" else text
+        if has_body and record.checks:
+            self.put_checks(body, record, LEADING.fullmatch(header)[2])
         self.formatter, self.in_where = None, False
         record.documentation = documentation
         self.functions.append(record)
         if EXPORT in attributes:
             record.result = result_of(header)
             self.exports.append(record)
-        self.finish(start, attributes, record, header if has_body else None)
+        self.finish(start, attributes, record, header, has_body)
         if record.conditions:
             self.document(begin, ["///", "/// # Requires", "///", *(f"/// - `{clause}`" for clause, _ in record.conditions)])
 
@@ -569,7 +576,7 @@ class Source:
             self.at += 1
         name, (parameters, generics) = self.word(1), self.parameters_of()
         self.at = was
-        return Function(name, line, is_public, parameters, generics, self.impl_type is not None)
+        return Function(name, line, is_public, parameters, generics, is_public and not self.in_tests and not self.crate.is_program)
 
     def export_words(self, attributes):
         """Leaves out `extern "C"` of an export, which the C library writes instead."""
@@ -660,35 +667,33 @@ class Source:
             clause = self.skip_clause()
             if is_condition:
                 record.conditions.append((clause, conditions.check_of(clause, types, self.crate, is_const)))
-        record.twin = self.twin_of(record)
         return self.at > start
 
-    def twin_of(self, record):
-        """The name under which erased code calls the function, where that is another: rattle_std's name for a call that
-        allocates, or that of an unchecked twin."""
-        if not conditions.can_be_called(record):
-            return None
-        if record.is_method and record.name in RENAMED:
-            return RENAMED[record.name] if self.impl_type else self.fail(
-                f"a trait's method {record.name!r} isn't known", "std has one that allocates: rename yours")
-        is_checked = record.is_public and record.checks and not self.in_tests
-        if is_checked and not self.crate.is_program:
-            return record.name + conditions.TWIN
-        return None
+    def forward(self, record, header, pad):
+        """The method under the name by which erased code calls it, if it has the name of one of std that rattle_std renames."""
+        if not record.is_method or record.name not in RENAMED:
+            return ""
+        if not self.impl_type:
+            self.fail(f"a trait's method {record.name!r} isn't known", "std has one that allocates: rename yours")
+        if record.parameters[0][-1] != "self" or any(words[1 + (words[0] == "mut")] != ":" for words in record.parameters[1:]):
+            self.fail(f"the parameters of {record.name!r} aren't known", "give each a name, as `to_vec(&self, alloc: Global)`")
+        return conditions.forward_of(header, pad, record)
 
-    def finish(self, start, attributes, record, header):
-        """Puts in the hint to inline, and the check of a public function."""
+    def put_checks(self, body, record, pad):
+        """Puts the checks of a function at the head of its body, whose first token is the one of `out` at `body`."""
+        self.out[body] += conditions.checks_of(record, pad)
+        if "\n" not in self.out[body + 1]:
+            self.out[body + 1] = f"\n{pad}{'    ' * (body + 1 < len(self.out) - 1)}{self.out[body + 1].lstrip()}"
+
+    def finish(self, start, attributes, record, header, has_body):
+        """Puts in the hint to inline, and the line of the caller for the checks."""
         before, pad, rest = LEADING.fullmatch("".join(self.out[start:])).groups()
-        own_hints = [f"#[{each}]" for each in attributes if re.match(r"inline|cold", each)]
         is_hosted = rest.startswith("rattle_c::main!") or "test" in attributes
-        hints = ["#[inline]"] if header and not self.in_tests and not is_hosted and not own_hints else []
-        head = before + "".join(f"{pad}{each}\n" for each in hints) + pad
-        if record.twin:
-            plain = header[len(before) + len(pad) :] if header.startswith(before + pad) else header.lstrip()
-            head += conditions.twin_of(plain, pad, record)
-            head += "".join(f"{pad}{each}\n" for each in ["#[doc(hidden)]", *(hints or own_hints)]) + pad
-            rest = rest.replace(f"fn {record.name}", f"fn {record.twin}", 1)
-        self.out[start:] = [head + rest]
+        has_hint = any(re.match(r"inline|cold", each) for each in attributes)
+        lines = ["#[inline]"] if has_body and not self.in_tests and not is_hosted and not has_hint else []
+        lines += ['#[cfg_attr(feature = "checked", track_caller)]'] if record.checks else []
+        head = before + "".join(f"{pad}{each}\n" for each in lines) + pad
+        self.out[start:] = [head + rest + self.forward(record, LEADING.fullmatch(header)[3], pad)]
 
 
 def prelude(macros, indent=""):

@@ -74,7 +74,7 @@ not_taken! {
 not_taken! {
     within_crate octets;
     AllocError AllocFailed DecodeError Global IntoError LiteralError Sink Steps VarintError MAX_LITERAL_LEN RELEASE cursor
-    huffman_text_len literal memory proved put_huffman_encoded put_string unfit varint_fits varint_len_unchecked verified
+    huffman_text_len literal memory proved put_huffman_encoded put_string unfit varint_fits verified
     writer
 }
 

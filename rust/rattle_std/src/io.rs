@@ -241,7 +241,7 @@ pub trait ReadIn: io::Read {
     /// It fails with the error of a read, unless that is `Interrupted`; then it reads again. It fails with
     /// `OutOfMemory` if an allocation fails; then the bytes of the last read, at most 4096, are lost. The bytes that it
     /// read before the error have been appended.
-    fn read_to_end_in(&mut self, bytes: &mut Vec<u8>) -> io::Result<usize> {
+    fn rattle_read_to_end(&mut self, bytes: &mut Vec<u8>) -> io::Result<usize> {
         let before = bytes.len();
         let mut part = [0; 4096];
         loop {
@@ -260,9 +260,9 @@ pub trait ReadIn: io::Read {
     ///
     /// It fails with `InvalidData` if the bytes aren't valid UTF-8, with `OutOfMemory` if an allocation fails, and with
     /// the error of a read. Then `text` is unchanged, and the bytes that it read are lost.
-    fn read_to_string_in(&mut self, text: &mut String) -> io::Result<usize> {
+    fn rattle_read_to_string(&mut self, text: &mut String) -> io::Result<usize> {
         let mut bytes = Vec::new(Global);
-        let count = self.read_to_end_in(&mut bytes)?;
+        let count = self.rattle_read_to_end(&mut bytes)?;
         append(text, &bytes)?;
         Ok(count)
     }
@@ -286,7 +286,7 @@ pub trait BufReadIn: io::BufRead {
     /// It fails with `InvalidData` if the line isn't valid UTF-8, with `OutOfMemory` if an allocation fails, and with the
     /// error of a read, unless that is `Interrupted`; then it reads again. After an error `text` is unchanged, and the
     /// bytes that it read are lost.
-    fn read_line_in(&mut self, text: &mut String) -> io::Result<usize> {
+    fn rattle_read_line(&mut self, text: &mut String) -> io::Result<usize> {
         let mut line = Vec::new(Global);
         loop {
             let part = match self.fill_buf() {
@@ -308,8 +308,8 @@ pub trait BufReadIn: io::BufRead {
     /// the line feed.
     ///
     /// In Rust's std this method takes no allocator. An item of the iterator is an error if
-    /// [`read_line_in`](Self::read_line_in) fails.
-    fn lines_in(self, alloc: Global) -> Lines<Self>
+    /// [`rattle_read_line`](Self::rattle_read_line) fails.
+    fn rattle_lines(self, alloc: Global) -> Lines<Self>
     where
         Self: Sized,
     {
@@ -319,7 +319,7 @@ pub trait BufReadIn: io::BufRead {
 
 impl<R: io::BufRead + ?Sized> BufReadIn for R {}
 
-/// An iterator over the lines of a reader, which [`BufReadIn::lines_in`] returns.
+/// An iterator over the lines of a reader, which [`BufReadIn::rattle_lines`] returns.
 #[derive(Debug)]
 pub struct Lines<R> {
     reader: R,
@@ -331,7 +331,7 @@ impl<R: io::BufRead> Iterator for Lines<R> {
 
     fn next(&mut self) -> Option<io::Result<String>> {
         let mut line = String::new(self.alloc);
-        match self.reader.read_line_in(&mut line) {
+        match self.reader.rattle_read_line(&mut line) {
             Ok(0) => None,
             Ok(_) => {
                 let len = line.strip_suffix('\n').map_or(line.len(), |text| text.strip_suffix('\r').unwrap_or(text).len());

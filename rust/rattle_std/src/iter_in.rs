@@ -41,7 +41,7 @@ pub trait IteratorIn: Iterator + Sized {
     ///
     /// Rust's `collect` takes no allocator, and ends the program if an allocation fails. This method returns an error
     /// then, and drops the items that it took from the iterator.
-    fn collect_in<C: Collection<Self::Item>>(self, alloc: Global) -> Result<C, AllocError> {
+    fn rattle_collect<C: Collection<Self::Item>>(self, alloc: Global) -> Result<C, AllocError> {
         let mut all = C::empty(alloc);
         for item in self {
             all.append(item)?;
@@ -53,7 +53,7 @@ pub trait IteratorIn: Iterator + Sized {
     ///
     /// If an allocation fails, it returns the [`AllocError`], converted to `E`. It takes no more items from the
     /// iterator after an error, and drops the values that it collected before.
-    fn try_collect_in<T, E, C>(self, alloc: Global) -> Result<C, E>
+    fn rattle_try_collect<T, E, C>(self, alloc: Global) -> Result<C, E>
     where
         Self: Iterator<Item = Result<T, E>>,
         E: From<AllocError>,

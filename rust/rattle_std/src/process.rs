@@ -79,24 +79,24 @@ pub trait ExpectOrStop<T, E> {
     ///
     /// It panics if the result is `Err` or the option is `None`. The message of the panic is `message`, and the error
     /// if there is one.
-    fn expect_or_stop(self, rt: &impl Abort, message: &str) -> T;
+    fn rattle_expect(self, rt: &impl Abort, message: &str) -> T;
 
     /// Returns the error of `Err`, or `()` for `None`.
     ///
     /// # Panics
     ///
     /// It panics if the result is `Ok` or the option is `Some`. The message of the panic is `message` and the value.
-    fn expect_err_or_stop(self, rt: &impl Abort, message: &str) -> E
+    fn rattle_expect_err(self, rt: &impl Abort, message: &str) -> E
     where
         T: fmt::Debug;
 }
 
 impl<T, E: fmt::Debug> ExpectOrStop<T, E> for Result<T, E> {
-    fn expect_or_stop(self, _: &impl Abort, message: &str) -> T {
+    fn rattle_expect(self, _: &impl Abort, message: &str) -> T {
         self.expect(message)
     }
 
-    fn expect_err_or_stop(self, _: &impl Abort, message: &str) -> E
+    fn rattle_expect_err(self, _: &impl Abort, message: &str) -> E
     where
         T: fmt::Debug,
     {
@@ -105,11 +105,11 @@ impl<T, E: fmt::Debug> ExpectOrStop<T, E> for Result<T, E> {
 }
 
 impl<T> ExpectOrStop<T, ()> for Option<T> {
-    fn expect_or_stop(self, _: &impl Abort, message: &str) -> T {
+    fn rattle_expect(self, _: &impl Abort, message: &str) -> T {
         self.expect(message)
     }
 
-    fn expect_err_or_stop(self, _: &impl Abort, message: &str)
+    fn rattle_expect_err(self, _: &impl Abort, message: &str)
     where
         T: fmt::Debug,
     {

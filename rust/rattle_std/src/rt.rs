@@ -34,8 +34,8 @@ pub trait Input {
 
     /// Returns an iterator over the lines of standard input, without their line feeds. Rust's counterpart is
     /// `stdin().lines()`.
-    fn lines_in(&self, alloc: Global) -> io::Lines<io::BufReader<io::Stdin>> {
-        io::BufReadIn::lines_in(self.reader(), alloc)
+    fn rattle_lines(&self, alloc: Global) -> io::Lines<io::BufReader<io::Stdin>> {
+        io::BufReadIn::rattle_lines(self.reader(), alloc)
     }
 }
 

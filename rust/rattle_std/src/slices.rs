@@ -9,29 +9,29 @@ use core::fmt::Display;
 /// fails, and are for types that are `Clone`; these are for types that are `Copy`.
 pub trait SliceIn<T> {
     /// Copies the slice into a new vector. It returns an error if the allocation fails.
-    fn to_vec_in(&self, alloc: Global) -> Result<Vec<T>, AllocError>;
+    fn rattle_to_vec(&self, alloc: Global) -> Result<Vec<T>, AllocError>;
 
-    /// Copies the slice into a new vector, as [`to_vec_in`](Self::to_vec_in) does.
-    fn to_owned_in(&self, alloc: Global) -> Result<Vec<T>, AllocError>;
+    /// Copies the slice into a new vector, as [`rattle_to_vec`](Self::rattle_to_vec) does.
+    fn rattle_to_owned(&self, alloc: Global) -> Result<Vec<T>, AllocError>;
 
     /// Creates a vector of `count` copies of the slice, one after the other.
     ///
     /// It returns an error if the allocation fails, or if a `usize` can't hold the length of the result. In the second
     /// case Rust's `repeat` panics.
-    fn repeat_in(&self, alloc: Global, count: usize) -> Result<Vec<T>, AllocError>;
+    fn rattle_repeat(&self, alloc: Global, count: usize) -> Result<Vec<T>, AllocError>;
 }
 
 impl<T: Copy> SliceIn<T> for [T] {
     #[inline]
-    fn to_vec_in(&self, alloc: Global) -> Result<Vec<T>, AllocError> {
+    fn rattle_to_vec(&self, alloc: Global) -> Result<Vec<T>, AllocError> {
         Vec::from_slice(alloc, self)
     }
 
-    fn to_owned_in(&self, alloc: Global) -> Result<Vec<T>, AllocError> {
+    fn rattle_to_owned(&self, alloc: Global) -> Result<Vec<T>, AllocError> {
         Vec::from_slice(alloc, self)
     }
 
-    fn repeat_in(&self, alloc: Global, count: usize) -> Result<Vec<T>, AllocError> {
+    fn rattle_repeat(&self, alloc: Global, count: usize) -> Result<Vec<T>, AllocError> {
         let len = self.len().checked_mul(count).ok_or(AllocError)?;
         let mut made = Vec::with_capacity(alloc, len)?;
         while made.len() < len {
@@ -45,21 +45,21 @@ impl<T: Copy> SliceIn<T> for [T] {
 /// allocation fails.
 pub trait StrIn {
     /// Copies the string slice into a new string. It returns an error if the allocation fails.
-    fn to_owned_in(&self, alloc: Global) -> Result<String, AllocError>;
+    fn rattle_to_owned(&self, alloc: Global) -> Result<String, AllocError>;
 
     /// Creates a string of `count` copies of the string slice, one after the other.
     ///
     /// It returns an error if the allocation fails, or if a `usize` can't hold the length of the result. In the second
     /// case Rust's `repeat` panics.
-    fn repeat_in(&self, alloc: Global, count: usize) -> Result<String, AllocError>;
+    fn rattle_repeat(&self, alloc: Global, count: usize) -> Result<String, AllocError>;
 }
 
 impl StrIn for str {
-    fn to_owned_in(&self, alloc: Global) -> Result<String, AllocError> {
+    fn rattle_to_owned(&self, alloc: Global) -> Result<String, AllocError> {
         String::from_str(alloc, self)
     }
 
-    fn repeat_in(&self, alloc: Global, count: usize) -> Result<String, AllocError> {
+    fn rattle_repeat(&self, alloc: Global, count: usize) -> Result<String, AllocError> {
         let len = self.len().checked_mul(count).ok_or(AllocError)?;
         let mut made = String::with_capacity(alloc, len)?;
         while made.len() < len {
@@ -75,11 +75,11 @@ pub trait ToStringIn {
     ///
     /// It returns an error if an allocation fails, or if the implementation of `Display` returns an error. In the
     /// second case Rust's `to_string` panics.
-    fn to_string_in(&self, alloc: Global) -> Result<String, AllocError>;
+    fn rattle_to_string(&self, alloc: Global) -> Result<String, AllocError>;
 }
 
 impl<T: Display + ?Sized> ToStringIn for T {
-    fn to_string_in(&self, alloc: Global) -> Result<String, AllocError> {
+    fn rattle_to_string(&self, alloc: Global) -> Result<String, AllocError> {
         String::format(alloc, format_args!("{self}"))
     }
 }

@@ -71,7 +71,7 @@ fn skip_back<I: DoubleEndedIterator>(items: &mut I, count: usize) -> Option<()> 
 pub trait ZipIteratorInTurn: Iterator + Sized {
     /// Returns an iterator over pairs of the items of this iterator and of another one.
     #[inline]
-    fn zip_in_turn<B: IntoIterator>(self, other: B) -> Zip<Self, B::IntoIter> {
+    fn rattle_zip<B: IntoIterator>(self, other: B) -> Zip<Self, B::IntoIter> {
         Zip { first: self, second: other.into_iter() }
     }
 }
@@ -82,12 +82,12 @@ impl<I: Iterator> ZipIteratorInTurn for I {}
 /// that name too; it does the same as Rust's.
 pub trait ZipOptionInTurn<T> {
     /// Returns a pair of both values if both options are `Some`, and otherwise `None`.
-    fn zip_in_turn<U>(self, other: Option<U>) -> Option<(T, U)>;
+    fn rattle_zip<U>(self, other: Option<U>) -> Option<(T, U)>;
 }
 
 impl<T> ZipOptionInTurn<T> for Option<T> {
     #[inline]
-    fn zip_in_turn<U>(self, other: Option<U>) -> Option<(T, U)> {
+    fn rattle_zip<U>(self, other: Option<U>) -> Option<(T, U)> {
         self.zip(other)
     }
 }

@@ -97,9 +97,9 @@ fn a_slice_is_copied_if_its_values_are_copy() {
     all.extend_from_slice(&values).unwrap();
     let copies = [
         all,
-        SliceIn::to_vec_in(&values[..], Global).unwrap(),
-        SliceIn::to_owned_in(&values[..], Global).unwrap(),
-        SliceIn::repeat_in(&values[..], Global, 3).unwrap(),
+        SliceIn::rattle_to_vec(&values[..], Global).unwrap(),
+        SliceIn::rattle_to_owned(&values[..], Global).unwrap(),
+        SliceIn::rattle_repeat(&values[..], Global, 3).unwrap(),
     ];
     assert_eq!(copies.map(|copy| copy.iter().map(|value| value.0.get()).sum::<u8>()), [28, 14, 14, 42]);
 }
@@ -120,7 +120,7 @@ fn a_vector_is_printed_if_its_values_are() {
     let shown = || Shown(Plain::new(&number));
     assert_eq!(std::format!("{:?}", vec![in Global; shown(), shown()].unwrap()), "[7, 7]");
     assert_eq!(&*format!(in Global; "{} {:?}", shown(), shown()).unwrap(), "7 7");
-    assert_eq!(&*shown().to_string_in(Global).unwrap(), "7");
+    assert_eq!(&*shown().rattle_to_string(Global).unwrap(), "7");
 }
 
 /// A range that implements no other trait.
@@ -162,10 +162,10 @@ impl<'a> From<AllocFailed<Bare<'a>>> for Why<'a> {
 fn any_values_are_collected() {
     let number = Cell::new(7);
     let two = || Two(Plain::new(&number), 2);
-    let all: Vec<Bare<'_>> = two().collect_in(Global).unwrap();
-    let tried: Result<Vec<Bare<'_>>, Why<'_>> = two().map(Ok).try_collect_in(Global);
+    let all: Vec<Bare<'_>> = two().rattle_collect(Global).unwrap();
+    let tried: Result<Vec<Bare<'_>>, Why<'_>> = two().map(Ok).rattle_try_collect(Global);
     assert!(all.len() == 2 && tried.is_ok_and(|all| all.len() == 2));
-    let failed: Result<Vec<Bare<'_>>, Why<'_>> = two().map(|bare| Err(Why(Some(bare.0)))).try_collect_in(Global);
+    let failed: Result<Vec<Bare<'_>>, Why<'_>> = two().map(|bare| Err(Why(Some(bare.0)))).rattle_try_collect(Global);
     assert!(failed.is_err());
     let failed = || AllocFailed { value: Bare(Plain::new(&number)) };
     assert_eq!((AllocError::from(failed()), std::format!("{}", failed())), (AllocError, AllocError.to_string()));
@@ -175,9 +175,9 @@ fn any_values_are_collected() {
 fn any_values_are_pairs() {
     let number = Cell::new(7);
     let (two, bare) = (|| Two(Plain::new(&number), 2), || Bare(Plain::new(&number)));
-    assert_eq!((two().zip_in_turn(two()).count(), two().zip_in_turn(two()).len()), (2, 2));
-    assert!(two().zip_in_turn(two()).next_back().is_some_and(|(one, other)| std::ptr::eq(one.0.0, other.0.0)));
-    assert!(Some(bare()).zip_in_turn(Some(two())).is_some() && Some(bare()).zip_in_turn(None::<Two<'_>>).is_none());
+    assert_eq!((two().rattle_zip(two()).count(), two().rattle_zip(two()).len()), (2, 2));
+    assert!(two().rattle_zip(two()).next_back().is_some_and(|(one, other)| std::ptr::eq(one.0.0, other.0.0)));
+    assert!(Some(bare()).rattle_zip(Some(two())).is_some() && Some(bare()).rattle_zip(None::<Two<'_>>).is_none());
 }
 
 /// The values of a chunk have to be `'static`, and nothing else.
@@ -225,11 +225,11 @@ mod hosted {
         let number = Cell::new(7);
         let text = b"a\nb\nc\nd".to_vec();
         let own = || Own(Plain::new(&number), &text);
-        assert_eq!(own().lines_in(Global).map(|line| line.unwrap().len()).sum::<usize>(), 4);
+        assert_eq!(own().rattle_lines(Global).map(|line| line.unwrap().len()).sum::<usize>(), 4);
         let (mut bytes, mut text, mut line) = (Vec::new(Global), String::new(Global), String::new(Global));
-        assert_eq!(own().read_to_end_in(&mut bytes).unwrap(), 7);
-        assert_eq!(own().read_to_string_in(&mut text).unwrap(), 7);
-        assert_eq!(own().read_line_in(&mut line).unwrap(), 2);
+        assert_eq!(own().rattle_read_to_end(&mut bytes).unwrap(), 7);
+        assert_eq!(own().rattle_read_to_string(&mut text).unwrap(), 7);
+        assert_eq!(own().rattle_read_line(&mut line).unwrap(), 2);
         assert_eq!(rattle_std::env::args(&own()).unwrap().count(), std::env::args().count());
     }
 
@@ -265,10 +265,10 @@ mod hosted {
         let (bare, shown) = (|| Bare(Plain::new(&number)), || Shown(Plain::new(&number)));
         let own = Own(Plain::new(&number), b"");
         assert_eq!(good(ExitCode::from(3), shown()).report(), ExitCode::from(3));
-        assert_eq!(good(bare(), shown()).expect_or_stop(&own, "m").0.0.get(), 7);
-        assert_eq!(Err::<Shown<'_>, Shown<'_>>(shown()).expect_err_or_stop(&own, "m").0.0.get(), 7);
-        assert_eq!(Some(bare()).expect_or_stop(&own, "m").0.0.get(), 7);
-        Some(shown()).filter(|value| value.0.0.get() == 0).expect_err_or_stop(&own, "m");
+        assert_eq!(good(bare(), shown()).rattle_expect(&own, "m").0.0.get(), 7);
+        assert_eq!(Err::<Shown<'_>, Shown<'_>>(shown()).rattle_expect_err(&own, "m").0.0.get(), 7);
+        assert_eq!(Some(bare()).rattle_expect(&own, "m").0.0.get(), 7);
+        Some(shown()).filter(|value| value.0.0.get() == 0).rattle_expect_err(&own, "m");
         good((), shown()).judge();
         let _: [Fail; 2] = [Fail::new(shown()), Fail::from(shown())];
         let failed = AllocFailed { value: bare() };

@@ -242,13 +242,13 @@ fn what_is_not_stored_is_dropped() {
     drop(all);
     // The first allocation holds four values, and the second, for the fifth, fails.
     let mut items = std::iter::repeat_with(|| Rc::clone(&value)).take(9);
-    let (all, failed) = failing_after(1, || items.by_ref().collect_in::<Vec<_>>(Global));
+    let (all, failed) = failing_after(1, || items.by_ref().rattle_collect::<Vec<_>>(Global));
     assert_eq!((all.unwrap_err(), failed, items.len(), Rc::strong_count(&value)), (AllocError, true, 4, 1));
     let mut items = std::iter::repeat_with(|| Ok(Rc::clone(&value))).take(9);
-    let (all, failed) = failing_after(1, || items.by_ref().try_collect_in::<_, AllocError, Vec<_>>(Global));
+    let (all, failed) = failing_after(1, || items.by_ref().rattle_try_collect::<_, AllocError, Vec<_>>(Global));
     assert_eq!((all.unwrap_err(), failed, items.len(), Rc::strong_count(&value)), (AllocError, true, 4, 1));
-    assert!(needs_none!((0..0).collect_in::<Vec<u8>>(Global)).unwrap().is_empty());
-    assert!(needs_none!("".chars().collect_in::<String>(Global)).unwrap().is_empty());
+    assert!(needs_none!((0..0).rattle_collect::<Vec<u8>>(Global)).unwrap().is_empty());
+    assert!(needs_none!("".chars().rattle_collect::<String>(Global)).unwrap().is_empty());
 }
 
 /// A value whose formatting fails after its first piece.
@@ -274,7 +274,7 @@ impl std::fmt::Display for Alternate {
 fn a_value_that_is_not_formatted_is_an_error() {
     assert_eq!(format!(in Global; "a{Fails}b"), Err(AllocError));
     assert_eq!(String::format(Global, format_args!("{Fails}")), Err(AllocError));
-    assert_eq!(Fails.to_string_in(Global), Err(AllocError));
+    assert_eq!(Fails.rattle_to_string(Global), Err(AllocError));
     let mut text = String::from_str(Global, "<").unwrap();
     assert_eq!((write!(text, "a{Fails}b"), &*text), (Err(AllocError), "<abegun"));
     // What was appended before the error also remains in a string that was empty.
@@ -327,8 +327,8 @@ fn long_vectors_do_what_those_of_rust_do() {
     for len in LONG {
         let mut theirs = std::vec::Vec::from_iter((0..len as u32).map(|n| n.wrapping_mul(0x9e37_79b1)));
         let mut ours = Vec::from_slice(Global, &theirs).unwrap();
-        assert!(*ours == *theirs && *SliceIn::to_vec_in(&theirs[..], Global).unwrap() == *theirs);
-        assert!(*SliceIn::to_owned_in(&theirs[..], Global).unwrap() == *theirs);
+        assert!(*ours == *theirs && *SliceIn::rattle_to_vec(&theirs[..], Global).unwrap() == *theirs);
+        assert!(*SliceIn::rattle_to_owned(&theirs[..], Global).unwrap() == *theirs);
         assert!(*Vec::from_elem(Global, 7_u8, len).unwrap() == *std::vec![7; len]);
         for index in [len - 1, len / 2, 65_536.min(len - 3)] {
             assert_eq!(ours.swap_remove(index), theirs.swap_remove(index));
@@ -431,7 +431,7 @@ fn a_conversion_takes_no_memory() {
     assert_eq!((rust.as_ptr(), rust.capacity(), &*rust), (at, 9, &b"ab\xff"[..]));
     let none: String = needs_none!(String::format(Global, format_args!("{}", ""))).unwrap();
     assert_eq!(none.capacity(), 0);
-    assert_eq!(needs_none!("".to_string_in(Global)).unwrap().capacity(), 0);
+    assert_eq!(needs_none!("".rattle_to_string(Global)).unwrap().capacity(), 0);
 }
 
 /// Errors of other bytes aren't equal, and neither are errors at other places.
@@ -475,8 +475,8 @@ fn a_string_is_printed_with_flags() {
 #[test]
 fn a_zip_ends_with_its_last_pair_whatever_follows() {
     for more in (0..600).chain([65_535, 65_536, 70_000]) {
-        assert_eq!((0..3).zip_in_turn(0..3 + more).next_back(), Some((2, 2)), "{more}");
-        assert_eq!((0..3 + more).zip_in_turn(0..3).next_back(), Some((2, 2)), "{more}");
+        assert_eq!((0..3).rattle_zip(0..3 + more).next_back(), Some((2, 2)), "{more}");
+        assert_eq!((0..3 + more).rattle_zip(0..3).next_back(), Some((2, 2)), "{more}");
     }
 }
 
@@ -490,9 +490,9 @@ fn values_with_no_size_are_counted() {
     }
     needs_none!(all.resize(70_000, ())).unwrap();
     assert_eq!((all.len(), all.pop(), all.len()), (70_000, Some(()), 69_999));
-    assert_eq!(needs_none!(SliceIn::repeat_in(&[(); 3][..], Global, 4)).unwrap().len(), 12);
+    assert_eq!(needs_none!(SliceIn::rattle_repeat(&[(); 3][..], Global, 4)).unwrap().len(), 12);
     // One value more than a vector can have.
-    assert!(needs_none!(SliceIn::repeat_in(&[(); 2][..], Global, usize::MAX)).is_err());
+    assert!(needs_none!(SliceIn::rattle_repeat(&[(); 2][..], Global, usize::MAX)).is_err());
 }
 
 /// Characters of each width in UTF-8, those at the bounds of each width, and characters that are often ignored.
@@ -509,9 +509,9 @@ fn each_character_is_kept() {
         text.push(c).unwrap();
     }
     assert!(text.as_str() == rust);
-    assert!(all.collect_in::<String>(Global).unwrap().as_str() == rust);
+    assert!(all.rattle_collect::<String>(Global).unwrap().as_str() == rust);
     assert!(String::format(Global, format_args!("{rust}")).unwrap().as_str() == rust);
-    assert!(rust.to_string_in(Global).unwrap().as_str() == rust && rust.to_owned_in(Global).unwrap().as_str() == rust);
+    assert!(rust.rattle_to_string(Global).unwrap().as_str() == rust && rust.rattle_to_owned(Global).unwrap().as_str() == rust);
     let mut literal = NO_TEXT;
     literal.write_fmt(format_args!("a\0 \n\0")).unwrap();
     assert_eq!(&*literal, "a\0 \n\0");
@@ -559,16 +559,16 @@ fn each_bound_is_as_it_was() {
     all.remove(0);
     all.swap_remove(0);
     assert_eq!((all.len(), all.as_slice().len(), all.slice_mut(1..).len()), (2, 2, 1));
-    let again: Vec<Bare<'_>> = all.into_iter().collect_in(Global).unwrap();
-    let again: std::result::Result<Vec<_>, AllocError> = again.into_iter().map(Ok).try_collect_in(Global);
-    let pairs: rattle_std::iter::Zip<_, _> = again.unwrap().into_iter().zip_in_turn([bare()]);
+    let again: Vec<Bare<'_>> = all.into_iter().rattle_collect(Global).unwrap();
+    let again: std::result::Result<Vec<_>, AllocError> = again.into_iter().map(Ok).rattle_try_collect(Global);
+    let pairs: rattle_std::iter::Zip<_, _> = again.unwrap().into_iter().rattle_zip([bare()]);
     assert_eq!(pairs.count(), 1);
-    let copied = (0..3).zip_in_turn(4..6);
+    let copied = (0..3).rattle_zip(4..6);
     assert_eq!(copied.clone().count(), copied.count());
     let shown: &dyn std::fmt::Display = &7;
-    assert_eq!(&*ToStringIn::to_string_in(shown, Global).unwrap(), "7");
-    assert_eq!(&*ToStringIn::to_string_in("a", Global).unwrap(), "a");
-    assert_eq!(&*Alternate.to_string_in(Global).unwrap(), "false");
+    assert_eq!(&*ToStringIn::rattle_to_string(shown, Global).unwrap(), "7");
+    assert_eq!(&*ToStringIn::rattle_to_string("a", Global).unwrap(), "a");
+    assert_eq!(&*Alternate.rattle_to_string(Global).unwrap(), "false");
     let _: Option<rattle_std::net::Ipv4Addr> = None;
 }
 
@@ -587,8 +587,8 @@ fn the_macros_take_what_those_of_rust_take() {
 
 #[test]
 fn two_options_are_a_pair() {
-    assert_eq!(Some(1).zip_in_turn(Some('a')), Some((1, 'a')));
-    assert_eq!((Some(1).zip_in_turn(None::<u8>), None::<u8>.zip_in_turn(Some(1))), (None, None));
+    assert_eq!(Some(1).rattle_zip(Some('a')), Some((1, 'a')));
+    assert_eq!((Some(1).rattle_zip(None::<u8>), None::<u8>.rattle_zip(Some(1))), (None, None));
 }
 
 /// `next` is called on the first iterator before the second, and not on the second after the end of the first.
@@ -605,7 +605,7 @@ fn a_zip_asks_in_turn() {
                 (at <= count).then_some(at)
             })
         };
-        assert_eq!(counted(0, first).zip_in_turn(counted(10, second)).count(), 2);
+        assert_eq!(counted(0, first).rattle_zip(counted(10, second)).count(), 2);
         assert_eq!(asked.take(), wanted);
     }
 }
@@ -616,7 +616,7 @@ fn a_zip_skips_in_turn() {
     for (first, second, wanted) in [(3, 5, (1, 11)), (5, 3, (1, 11)), (4, 4, (2, 12))] {
         let asked = std::cell::RefCell::new(std::vec::Vec::new());
         let noted = |n: &u8| asked.borrow_mut().push(*n);
-        let pairs = || (0..first).inspect(noted).zip_in_turn((10..10 + second).inspect(noted));
+        let pairs = || (0..first).inspect(noted).rattle_zip((10..10 + second).inspect(noted));
         assert_eq!(pairs().nth(1), Some((1, 11)));
         assert_eq!(asked.take(), [0, 10, 1, 11]);
         let mut all = pairs();
@@ -626,7 +626,7 @@ fn a_zip_skips_in_turn() {
     }
     let asked = std::cell::RefCell::new(std::vec::Vec::new());
     let noted = |n: &u8| asked.borrow_mut().push(*n);
-    (0..3).inspect(noted).zip_in_turn((10..12).inspect(noted)).rev().nth(1).unwrap();
+    (0..3).inspect(noted).rattle_zip((10..12).inspect(noted)).rev().nth(1).unwrap();
     assert_eq!(asked.take(), [2, 1, 11, 0, 10]);
 }
 
@@ -646,9 +646,9 @@ fn a_zip_ends_in_turn() {
         }
     }
     let dropped = std::cell::RefCell::new(std::vec::Vec::new());
-    drop(Noted(1, &dropped).zip_in_turn(Noted(2, &dropped)));
+    drop(Noted(1, &dropped).rattle_zip(Noted(2, &dropped)));
     assert_eq!(dropped.take(), [1, 2]);
-    assert_eq!(std::format!("{:?}", (0..1).zip_in_turn(2..3)), "Zip { first: 0..1, second: 2..3 }");
+    assert_eq!(std::format!("{:?}", (0..1).rattle_zip(2..3)), "Zip { first: 0..1, second: 2..3 }");
 }
 
 /// The size hint of an iterator may be wrong: memory is allocated for the items that the iterator returns.
@@ -666,7 +666,7 @@ fn no_memory_is_taken_for_items_that_do_not_come() {
     }
     let endless = (0..usize::MAX).map(|n| if n < 3 { Ok(n) } else { Err(Why::Third) });
     assert_eq!(endless.size_hint().0, usize::MAX);
-    assert_eq!(endless.try_collect_in::<_, Why, Vec<usize>>(Global), Err(Why::Third));
+    assert_eq!(endless.rattle_try_collect::<_, Why, Vec<usize>>(Global), Err(Why::Third));
     struct Few(u8);
     impl Iterator for Few {
         type Item = u8;
@@ -678,7 +678,7 @@ fn no_memory_is_taken_for_items_that_do_not_come() {
             (usize::MAX, None)
         }
     }
-    assert_eq!(*Few(3).collect_in::<Vec<u8>>(Global).unwrap(), [2, 1, 0]);
+    assert_eq!(*Few(3).rattle_collect::<Vec<u8>>(Global).unwrap(), [2, 1, 0]);
 }
 
 #[test]
@@ -785,12 +785,12 @@ fn a_string_is_formatted() {
     let (written, failed) = failing_after(1, || text.write_fmt(format_args!("{}{long}", 1)));
     assert!(failed && written == Err(AllocError));
     assert_eq!(&*text, "a1");
-    assert_eq!(long.repeat(700).to_string_in(Global).unwrap().len(), 70_000);
+    assert_eq!(long.repeat(700).rattle_to_string(Global).unwrap().len(), 70_000);
     let mut text = String::from_str(Global, "a").unwrap();
     text.write_fmt(format_args!("{}-{}", 1, 2)).unwrap();
     assert_eq!(&*text, "a1-2");
     assert_eq!(&*needs_memory!(String::format(Global, format_args!("{:3}", 7))), "  7");
-    assert_eq!(&*needs_memory!(12.to_string_in(Global)), "12");
+    assert_eq!(&*needs_memory!(12.rattle_to_string(Global)), "12");
     assert_eq!(std::format!("{text} {text:?} {text:6}|"), "a1-2 \"a1-2\" a1-2  |");
     assert!(text > String::from_str(Global, "a").unwrap());
     assert_eq!(std::string::String::from(text), "a1-2");
@@ -825,34 +825,34 @@ fn bytes_that_are_no_text_are_given_back() {
 
 #[test]
 fn slices_and_texts_are_copied() {
-    assert_eq!(*needs_memory!(SliceIn::to_vec_in(&[1, 2][..], Global)), [1, 2]);
-    assert_eq!(*needs_memory!(SliceIn::to_owned_in(&[1, 2][..], Global)), [1, 2]);
-    assert_eq!(*needs_memory!(SliceIn::repeat_in(&[1, 2][..], Global, 3)), [1, 2, 1, 2, 1, 2]);
-    assert!(SliceIn::repeat_in(&[1_u8, 2][..], Global, usize::MAX).is_err());
-    assert_eq!(&*needs_memory!("ab".to_owned_in(Global)), "ab");
-    assert_eq!(&*needs_memory!(StrIn::repeat_in("ab", Global, 3)), "ababab");
-    assert!(StrIn::repeat_in("ab", Global, usize::MAX).is_err());
+    assert_eq!(*needs_memory!(SliceIn::rattle_to_vec(&[1, 2][..], Global)), [1, 2]);
+    assert_eq!(*needs_memory!(SliceIn::rattle_to_owned(&[1, 2][..], Global)), [1, 2]);
+    assert_eq!(*needs_memory!(SliceIn::rattle_repeat(&[1, 2][..], Global, 3)), [1, 2, 1, 2, 1, 2]);
+    assert!(SliceIn::rattle_repeat(&[1_u8, 2][..], Global, usize::MAX).is_err());
+    assert_eq!(&*needs_memory!("ab".rattle_to_owned(Global)), "ab");
+    assert_eq!(&*needs_memory!(StrIn::rattle_repeat("ab", Global, 3)), "ababab");
+    assert!(StrIn::rattle_repeat("ab", Global, usize::MAX).is_err());
     // The product of the lengths overflows, and would wrap to 0. The call fails before it allocates.
     let half = 1 << (usize::BITS - 1);
-    assert!(needs_none!(SliceIn::repeat_in(&[1_u8, 2][..], Global, half)).is_err());
-    assert!(needs_none!(StrIn::repeat_in("ab", Global, half)).is_err());
+    assert!(needs_none!(SliceIn::rattle_repeat(&[1_u8, 2][..], Global, half)).is_err());
+    assert!(needs_none!(StrIn::rattle_repeat("ab", Global, half)).is_err());
     // To repeat an empty slice takes no time, for any count.
-    assert!(needs_none!(SliceIn::repeat_in(&[0_u8; 0][..], Global, usize::MAX)).unwrap().is_empty());
-    assert!(needs_none!(StrIn::repeat_in("", Global, usize::MAX)).unwrap().is_empty());
-    let copies = SliceIn::repeat_in(&[1, 2, 3][..], Global, 50_000).unwrap();
+    assert!(needs_none!(SliceIn::rattle_repeat(&[0_u8; 0][..], Global, usize::MAX)).unwrap().is_empty());
+    assert!(needs_none!(StrIn::rattle_repeat("", Global, usize::MAX)).unwrap().is_empty());
+    let copies = SliceIn::rattle_repeat(&[1, 2, 3][..], Global, 50_000).unwrap();
     assert!(*copies == [1, 2, 3].repeat(50_000) && copies.capacity() == 150_000);
-    let copies = StrIn::repeat_in("a\u{df}", Global, 50_000).unwrap();
+    let copies = StrIn::rattle_repeat("a\u{df}", Global, 50_000).unwrap();
     assert!(copies.as_str() == "a\u{df}".repeat(50_000) && copies.capacity() == 150_000);
-    let copies = SliceIn::repeat_in(&[1, 2][..], Global, 3).unwrap();
+    let copies = SliceIn::rattle_repeat(&[1, 2][..], Global, 3).unwrap();
     assert_eq!(copies.capacity(), 6);
-    assert_eq!(StrIn::repeat_in("ab", Global, 3).unwrap().capacity(), 6);
+    assert_eq!(StrIn::rattle_repeat("ab", Global, 3).unwrap().capacity(), 6);
 }
 
 #[test]
 fn iterators_are_collected() {
-    let squares: Vec<u32> = needs_memory!((1..4).map(|n| n * n).collect_in::<Vec<u32>>(Global));
+    let squares: Vec<u32> = needs_memory!((1..4).map(|n| n * n).rattle_collect::<Vec<u32>>(Global));
     assert_eq!(*squares, [1, 4, 9]);
-    let text: String = needs_memory!("Aß\n".chars().collect_in::<String>(Global));
+    let text: String = needs_memory!("Aß\n".chars().rattle_collect::<String>(Global));
     assert_eq!(&*text, "Aß\n");
     #[derive(Debug, PartialEq)]
     enum Why {
@@ -865,22 +865,22 @@ fn iterators_are_collected() {
         }
     }
     let even = |n: u32| if n % 2 == 0 { Ok(n) } else { Err(Why::Odd(n)) };
-    let all = |list: &'static [u32]| list.iter().map(move |n| even(*n)).try_collect_in::<_, Why, Vec<u32>>(Global);
+    let all = |list: &'static [u32]| list.iter().map(move |n| even(*n)).rattle_try_collect::<_, Why, Vec<u32>>(Global);
     assert_eq!(*needs_memory!(all(&[2, 4])), [2, 4]);
     assert_eq!(failing_after(0, || all(&[2, 4])).0.unwrap_err(), Why::Memory);
     assert_eq!(all(&[2, 3, 5]).unwrap_err(), Why::Odd(3));
     // The items after the error remain in the iterator.
     let mut items = [2, 3, 5, 7].iter().map(|n| even(*n));
-    assert_eq!(items.by_ref().try_collect_in::<_, Why, Vec<u32>>(Global).unwrap_err(), Why::Odd(3));
+    assert_eq!(items.by_ref().rattle_try_collect::<_, Why, Vec<u32>>(Global).unwrap_err(), Why::Odd(3));
     assert_eq!(items.next(), Some(Err(Why::Odd(5))));
-    assert_eq!((0..70_000).collect_in::<Vec<u32>>(Global).unwrap().len(), 70_000);
-    let many = (0..70_000).map(|n| even(2 * n)).try_collect_in::<_, Why, Vec<u32>>(Global);
+    assert_eq!((0..70_000).rattle_collect::<Vec<u32>>(Global).unwrap().len(), 70_000);
+    let many = (0..70_000).map(|n| even(2 * n)).rattle_try_collect::<_, Why, Vec<u32>>(Global);
     assert_eq!(many.unwrap().len(), 70_000);
     const MANY: u32 = (1 << 20) + 1;
-    assert!((0..MANY).collect_in::<Vec<u32>>(Global).unwrap().iter().copied().eq(0..MANY));
-    let many = (0..MANY).map(|n| even(2 * n)).try_collect_in::<_, Why, Vec<u32>>(Global);
+    assert!((0..MANY).rattle_collect::<Vec<u32>>(Global).unwrap().iter().copied().eq(0..MANY));
+    let many = (0..MANY).map(|n| even(2 * n)).rattle_try_collect::<_, Why, Vec<u32>>(Global);
     assert!(many.unwrap().iter().copied().eq((0..MANY).map(|n| 2 * n)));
-    assert_eq!((0..MANY).map(|_| 'a').collect_in::<String>(Global).unwrap().len(), MANY as usize);
+    assert_eq!((0..MANY).map(|_| 'a').rattle_collect::<String>(Global).unwrap().len(), MANY as usize);
 }
 
 #[test]
@@ -920,17 +920,17 @@ fn a_zip_knows_its_length() {
     use std::iter::FusedIterator;
     fn is_fused(_: &impl FusedIterator) {}
     let hints = [
-        (0..3).zip_in_turn(0..5).size_hint(),
-        (0..5).zip_in_turn(0..3).size_hint(),
-        (0..).zip_in_turn(0..4).size_hint(),
-        (0..4).zip_in_turn(0..).size_hint(),
-        (0..5).filter(|n| *n > 1).zip_in_turn(0..3).size_hint(),
-        (0..).zip_in_turn(0..).size_hint(),
+        (0..3).rattle_zip(0..5).size_hint(),
+        (0..5).rattle_zip(0..3).size_hint(),
+        (0..).rattle_zip(0..4).size_hint(),
+        (0..4).rattle_zip(0..).size_hint(),
+        (0..5).filter(|n| *n > 1).rattle_zip(0..3).size_hint(),
+        (0..).rattle_zip(0..).size_hint(),
     ];
     let wanted = [(3, Some(3)), (3, Some(3)), (4, Some(4)), (4, Some(4)), (0, Some(3)), (usize::MAX, None)];
     assert_eq!(hints, wanted);
-    assert_eq!((0..3).zip_in_turn(0..5).len(), 3);
-    is_fused(&(0..3).zip_in_turn(0..5));
+    assert_eq!((0..3).rattle_zip(0..5).len(), 3);
+    is_fused(&(0..3).rattle_zip(0..5));
 }
 
 /// `next_back` first removes the items after the last pair from the longer iterator. Then it takes an item from the
@@ -939,7 +939,7 @@ fn a_zip_knows_its_length() {
 fn a_zip_ends_with_its_last_pair() {
     for (first, second) in [(5, 3), (3, 5), (3, 3), (0, 2), (2, 0)] {
         let count = first.min(second);
-        let mut pairs = (0..first).zip_in_turn(10..10 + second);
+        let mut pairs = (0..first).rattle_zip(10..10 + second);
         for at in (0..count).rev() {
             assert_eq!(pairs.next_back(), Some((at, 10 + at)));
         }
@@ -947,11 +947,11 @@ fn a_zip_ends_with_its_last_pair() {
     }
     let asked = std::cell::RefCell::new(std::vec::Vec::new());
     let noted = |n: u8| asked.borrow_mut().push(n);
-    (0..2).inspect(|n| noted(*n)).zip_in_turn((10..13).inspect(|n| noted(*n))).next_back().unwrap();
+    (0..2).inspect(|n| noted(*n)).rattle_zip((10..13).inspect(|n| noted(*n))).next_back().unwrap();
     assert_eq!(asked.take(), [12, 1, 11]);
     // If there is no pair, no item is removed.
     let mut items = 0..3;
-    assert_eq!(items.by_ref().zip_in_turn(0..0).next_back(), None);
+    assert_eq!(items.by_ref().rattle_zip(0..0).next_back(), None);
     assert_eq!(items, 0..3);
 }
 
@@ -983,21 +983,21 @@ fn reads_say_that_memory_is_short() {
     let (mut bytes, mut text) = (Vec::new(Global), String::new(Global));
     let (wrote, failed) = failing_after(0, || bytes.write(b"ab"));
     assert!(failed && kind(wrote) == ErrorKind::OutOfMemory);
-    let (read, failed) = failing_after(0, || b"ab".as_slice().read_to_end_in(&mut bytes));
+    let (read, failed) = failing_after(0, || b"ab".as_slice().rattle_read_to_end(&mut bytes));
     assert!(failed && kind(read) == ErrorKind::OutOfMemory);
     for count in 0..2 {
-        let (read, failed) = failing_after(count, || b"ab".as_slice().read_to_string_in(&mut text));
+        let (read, failed) = failing_after(count, || b"ab".as_slice().rattle_read_to_string(&mut text));
         assert!(failed && kind(read) == ErrorKind::OutOfMemory, "{count}");
     }
     for count in 0..2 {
-        let (read, failed) = failing_after(count, || b"ab".as_slice().read_line_in(&mut text));
+        let (read, failed) = failing_after(count, || b"ab".as_slice().rattle_read_line(&mut text));
         assert!(failed && kind(read) == ErrorKind::OutOfMemory, "{count}");
     }
     assert!(bytes.is_empty() && text.is_empty());
     // The bytes of the last read are lost, and those of the first one are there.
     let (long, mut bytes) = (std::vec![7; 10_000], Vec::new(Global));
     let mut rest = &long[..];
-    let (read, failed) = failing_after(1, || rest.read_to_end_in(&mut bytes));
+    let (read, failed) = failing_after(1, || rest.rattle_read_to_end(&mut bytes));
     assert!(failed && kind(read) == ErrorKind::OutOfMemory);
     assert_eq!((bytes.len(), rest.len()), (4096, 10_000 - 2 * 4096));
     assert_eq!(rattle_std::io::Error::from(AllocError).kind(), ErrorKind::OutOfMemory);
@@ -1009,13 +1009,13 @@ fn reads_say_that_memory_is_short() {
     }
 }
 
-/// `read_to_end_in` returns how many bytes it read, also if these are many.
+/// `rattle_read_to_end` returns how many bytes it read, also if these are many.
 #[cfg(feature = "std")]
 #[test]
 fn long_inputs_are_read_whole() {
     for len in LONG {
         let (bytes, mut read) = (std::vec![7; len], Vec::from_array(Global, [1]).unwrap());
-        assert_eq!((&bytes[..]).read_to_end_in(&mut read).unwrap(), len);
+        assert_eq!((&bytes[..]).rattle_read_to_end(&mut read).unwrap(), len);
         assert!(read[0] == 1 && read[1..] == bytes, "{len}");
     }
 }
@@ -1026,11 +1026,11 @@ fn long_inputs_are_read_whole() {
 fn inputs_are_read_behind_what_is_there() {
     for before in LONG.into_iter().chain([0, 4095, 4096, 4097, 8192]) {
         let mut bytes = Vec::from_elem(Global, 1, before).unwrap();
-        assert_eq!(b"abc".as_slice().read_to_end_in(&mut bytes).unwrap(), 3);
+        assert_eq!(b"abc".as_slice().rattle_read_to_end(&mut bytes).unwrap(), 3);
         assert!(bytes.len() == before + 3 && bytes[before..] == *b"abc" && bytes[..before].iter().all(|byte| *byte == 1));
         let mut text = String::from_str(Global, &"x".repeat(before)).unwrap();
-        assert_eq!("aé".as_bytes().read_to_string_in(&mut text).unwrap(), 3);
-        assert_eq!("b\nc".as_bytes().read_line_in(&mut text).unwrap(), 2);
+        assert_eq!("aé".as_bytes().rattle_read_to_string(&mut text).unwrap(), 3);
+        assert_eq!("b\nc".as_bytes().rattle_read_line(&mut text).unwrap(), 2);
         assert!(text.len() == before + 5 && text.ends_with("aéb\n"));
     }
 }
@@ -1043,7 +1043,7 @@ fn a_character_that_is_cut_is_refused() {
         for end in 1..whole.len() {
             let input = [b"ab", &whole.as_bytes()[..end]].concat();
             let mut text = String::from_str(Global, "x").unwrap();
-            let reads = [input.as_slice().read_to_string_in(&mut text), input.as_slice().read_line_in(&mut text)];
+            let reads = [input.as_slice().rattle_read_to_string(&mut text), input.as_slice().rattle_read_line(&mut text)];
             for read in reads {
                 assert_eq!(read.unwrap_err().kind(), std::io::ErrorKind::InvalidData);
             }
@@ -1064,7 +1064,7 @@ fn lines_are_those_of_rust() {
         from += 1;
     }
     for input in inputs {
-        let ours = (&input[..]).lines_in(Global).map(|line| std::string::String::from(line.unwrap()));
+        let ours = (&input[..]).rattle_lines(Global).map(|line| std::string::String::from(line.unwrap()));
         let theirs = std::io::BufRead::lines(&input[..]).map(|line| line.unwrap());
         assert!(ours.eq(theirs), "{input:?}");
     }
@@ -1093,7 +1093,7 @@ fn lines_of(text: &[u8], capacity: usize) -> (std::vec::Vec<std::string::String>
     let mut lines = std::vec::Vec::new();
     loop {
         let mut line = String::from_str(Global, "> ").unwrap();
-        match reader.read_line_in(&mut line) {
+        match reader.rattle_read_line(&mut line) {
             Ok(count @ 1..) => {
                 assert_eq!(count + 2, line.len());
                 lines.push(line.as_str().to_owned());
@@ -1112,13 +1112,13 @@ fn a_long_line_is_read_whole() {
         text.extend_from_slice(b"\nab");
         let mut rest = text.as_slice();
         let mut line = String::new(Global);
-        assert_eq!(rest.read_line_in(&mut line).unwrap(), len + 1);
+        assert_eq!(rest.rattle_read_line(&mut line).unwrap(), len + 1);
         assert!(line.as_bytes() == &text[..len + 1]);
         assert_eq!(rest, b"ab");
         // The same line in pieces.
         let mut reader = std::io::BufReader::new(text.as_slice());
         line.clear();
-        assert_eq!(reader.read_line_in(&mut line).unwrap(), len + 1);
+        assert_eq!(reader.rattle_read_line(&mut line).unwrap(), len + 1);
         assert!(line.as_bytes() == &text[..len + 1]);
     }
 }

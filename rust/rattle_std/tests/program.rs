@@ -128,7 +128,7 @@ fn copies(rt: HostRuntime) -> io::Result<()> {
     let mut first = [0; 2];
     rt.stdin().read_exact(&mut first)?;
     let mut bytes = Vec::from_array(Global, [b'<']).unwrap();
-    let count = rt.stdin().read_to_end_in(&mut bytes)?;
+    let count = rt.stdin().rattle_read_to_end(&mut bytes)?;
     println!(rt; "{count} {}", bytes.len())?;
     rt.stdout().write_all(&bytes)
 }
@@ -147,7 +147,7 @@ fn bytes(rt: HostRuntime) -> io::Result<()> {
 }
 
 fn lines(rt: HostRuntime) -> io::Result<()> {
-    for line in rt.lines_in(rt.alloc()) {
+    for line in rt.rattle_lines(rt.alloc()) {
         println!(rt; "[{}]", line?)?;
     }
     Ok(())
@@ -156,18 +156,18 @@ fn lines(rt: HostRuntime) -> io::Result<()> {
 /// A reader takes no byte after the line that it reads, so a second reader reads the rest.
 fn two_readers(rt: HostRuntime) -> io::Result<()> {
     let (mut line, mut rest) = (String::new(Global), String::new(Global));
-    rt.reader().read_line_in(&mut line)?;
-    rt.reader().read_to_string_in(&mut rest)?;
+    rt.reader().rattle_read_line(&mut line)?;
+    rt.reader().rattle_read_to_string(&mut rest)?;
     println!(rt; "{line:?} {rest:?}")
 }
 
 /// Each reader goes on where the one before it stopped, whichever call reads a line.
 fn reads_on(rt: HostRuntime) -> io::Result<()> {
     let (mut second, mut last) = (String::new(Global), String::new(Global));
-    let first = rt.lines_in(Global).next().transpose()?;
-    rt.reader().read_line_in(&mut second)?;
-    let third = rt.lines_in(Global).next().transpose()?;
-    rt.stdin().read_to_string_in(&mut last)?;
+    let first = rt.rattle_lines(Global).next().transpose()?;
+    rt.reader().rattle_read_line(&mut second)?;
+    let third = rt.rattle_lines(Global).next().transpose()?;
+    rt.stdin().rattle_read_to_string(&mut last)?;
     println!(rt; "{first:?} {second:?} {third:?} {last:?}")
 }
 
@@ -452,7 +452,7 @@ fn unit_cases(rt: HostRuntime) {
     fn printed<T: std::fmt::Debug>(_: T) {}
     copied(rt);
     copied(ExitCode::SUCCESS);
-    printed((rt.stdin(), rt.stdout(), rt.stderr(), rt.lines_in(Global)));
+    printed((rt.stdin(), rt.stdout(), rt.stderr(), rt.rattle_lines(Global)));
     let hook = std::panic::take_hook();
     std::panic::set_hook(Box::new(|_| ()));
     assertions(rt);
@@ -561,13 +561,13 @@ fn assertions(rt: HostRuntime) {
 
 fn expectations(rt: HostRuntime) {
     let (good, bad): (Result<u8, u8>, Result<u8, u8>) = (Ok(1), Err(2));
-    assert_eq!((good.expect_or_stop(&rt, "m"), bad.expect_err_or_stop(&rt, "m")), (1, 2));
-    assert_eq!(panics(|| _ = bad.expect_or_stop(&rt, "m")).unwrap(), "m: 2");
-    assert_eq!(panics(|| _ = good.expect_err_or_stop(&rt, "m")).unwrap(), "m: 1");
-    assert_eq!(Some(1).expect_or_stop(&rt, "m"), 1);
-    assert_eq!(panics(|| _ = None::<u8>.expect_or_stop(&rt, "m")).unwrap(), "m");
-    None::<u8>.expect_err_or_stop(&rt, "m");
-    assert_eq!(panics(|| Some(1).expect_err_or_stop(&rt, "m")).unwrap(), "m: Some(1)");
+    assert_eq!((good.rattle_expect(&rt, "m"), bad.rattle_expect_err(&rt, "m")), (1, 2));
+    assert_eq!(panics(|| _ = bad.rattle_expect(&rt, "m")).unwrap(), "m: 2");
+    assert_eq!(panics(|| _ = good.rattle_expect_err(&rt, "m")).unwrap(), "m: 1");
+    assert_eq!(Some(1).rattle_expect(&rt, "m"), 1);
+    assert_eq!(panics(|| _ = None::<u8>.rattle_expect(&rt, "m")).unwrap(), "m");
+    None::<u8>.rattle_expect_err(&rt, "m");
+    assert_eq!(panics(|| Some(1).rattle_expect_err(&rt, "m")).unwrap(), "m: Some(1)");
 }
 
 fn outcomes() {
@@ -608,41 +608,41 @@ fn insertions() {
 fn streams() {
     let mut bytes = Vec::new(Global);
     assert_eq!((bytes.write(b"ab").unwrap(), bytes.flush().is_ok()), (2, true));
-    assert_eq!(b"cd".as_slice().read_to_end_in(&mut bytes).unwrap(), 2);
+    assert_eq!(b"cd".as_slice().rattle_read_to_end(&mut bytes).unwrap(), 2);
     assert_eq!(*bytes, *b"abcd");
     let mut text = String::from_str(Global, "<").unwrap();
-    assert_eq!("\u{df}".as_bytes().read_to_string_in(&mut text).unwrap(), 2);
-    assert_eq!(b"\xff".as_slice().read_to_string_in(&mut text).unwrap_err().kind(), io::ErrorKind::InvalidData);
-    assert_eq!(b"a\nb".as_slice().read_line_in(&mut text).unwrap(), 2);
+    assert_eq!("\u{df}".as_bytes().rattle_read_to_string(&mut text).unwrap(), 2);
+    assert_eq!(b"\xff".as_slice().rattle_read_to_string(&mut text).unwrap_err().kind(), io::ErrorKind::InvalidData);
+    assert_eq!(b"a\nb".as_slice().rattle_read_line(&mut text).unwrap(), 2);
     assert_eq!(&*text, "<\u{df}a\n");
     // If the invalid byte isn't the first one, nothing is appended either.
-    assert_eq!(b"ab\xff".as_slice().read_to_string_in(&mut text).unwrap_err().kind(), io::ErrorKind::InvalidData);
-    assert_eq!(b"ab\xff\n".as_slice().read_line_in(&mut text).unwrap_err().kind(), io::ErrorKind::InvalidData);
+    assert_eq!(b"ab\xff".as_slice().rattle_read_to_string(&mut text).unwrap_err().kind(), io::ErrorKind::InvalidData);
+    assert_eq!(b"ab\xff\n".as_slice().rattle_read_line(&mut text).unwrap_err().kind(), io::ErrorKind::InvalidData);
     assert_eq!(&*text, "<\u{df}a\n");
     // The call returns every error of a read except `Interrupted`, even if another read would succeed.
-    assert_eq!(Waits(true).read_to_end_in(&mut bytes).unwrap_err().kind(), io::ErrorKind::WouldBlock);
+    assert_eq!(Waits(true).rattle_read_to_end(&mut bytes).unwrap_err().kind(), io::ErrorKind::WouldBlock);
     let mut interrupted = Interrupted(3);
     let mut bytes = Vec::new(Global);
-    assert_eq!(interrupted.read_to_end_in(&mut bytes).unwrap_err().kind(), io::ErrorKind::BrokenPipe);
+    assert_eq!(interrupted.rattle_read_to_end(&mut bytes).unwrap_err().kind(), io::ErrorKind::BrokenPipe);
     assert_eq!(*bytes, *b"x");
     // The line feed and one carriage return before it are removed from a line. Other white space is not.
-    let lines: std::vec::Vec<_> = b"a\r\nb \t\r\r\n\n c".as_slice().lines_in(Global).map(|line| line.unwrap().len()).collect();
+    let lines: std::vec::Vec<_> = b"a\r\nb \t\r\r\n\n c".as_slice().rattle_lines(Global).map(|line| line.unwrap().len()).collect();
     assert_eq!(lines, [1, 4, 0, 2]);
     // No other character ends a line.
     let line = "a\x0b\x0c\x1c\x1d\x1e\0\u{85}\u{2028}\u{2029}\rb";
-    let lines: std::vec::Vec<_> = line.as_bytes().lines_in(Global).map(|line| line.unwrap().into_bytes()).collect();
+    let lines: std::vec::Vec<_> = line.as_bytes().rattle_lines(Global).map(|line| line.unwrap().into_bytes()).collect();
     assert!(lines.len() == 1 && *lines[0] == *line.as_bytes());
     // A line that the buffer contains is taken from it at once.
     let (mut reader, mut text) = (Taken(b"a\x0b\x0c\rb\nc\n", std::vec::Vec::new()), String::new(Global));
-    assert_eq!((reader.read_line_in(&mut text).unwrap(), &*text), (6, "a\x0b\x0c\rb\n"));
+    assert_eq!((reader.rattle_read_line(&mut text).unwrap(), &*text), (6, "a\x0b\x0c\rb\n"));
     assert_eq!(reader.1, [6]);
     // A reader may have a size that isn't known when it is compiled.
     let (mut all, mut input, mut text) = (Vec::new(Global), b"a\nb".as_slice(), String::new(Global));
-    assert_eq!(<dyn io::BufRead>::read_line_in(&mut input, &mut text).unwrap(), 2);
-    assert_eq!((<dyn Read>::read_to_end_in(&mut input, &mut all).unwrap(), &*text, &*all), (1, "a\n", &b"b"[..]));
+    assert_eq!(<dyn io::BufRead>::rattle_read_line(&mut input, &mut text).unwrap(), 2);
+    assert_eq!((<dyn Read>::rattle_read_to_end(&mut input, &mut all).unwrap(), &*text, &*all), (1, "a\n", &b"b"[..]));
     texts_of_slow_readers();
     errors_of_readers();
-    let lines: std::vec::Vec<_> = b"a\r\nb\r".as_slice().lines_in(Global).map(|line| line.unwrap().len()).collect();
+    let lines: std::vec::Vec<_> = b"a\r\nb\r".as_slice().rattle_lines(Global).map(|line| line.unwrap().len()).collect();
     assert_eq!(lines, [1, 2]);
 }
 
@@ -665,19 +665,19 @@ fn texts_of_slow_readers() {
     let long = "x\u{df}\u{20ac}\u{1f600}".repeat(7001);
     for wanted in ["\u{feff}a\0\u{1a}\u{df}\u{20ac}\u{1f600}\u{ffff}\r", "\u{1a}", &long] {
         let mut text = String::from_str(Global, "<").unwrap();
-        assert_eq!(Slow(wanted.as_bytes(), false).read_to_string_in(&mut text).unwrap(), wanted.len());
+        assert_eq!(Slow(wanted.as_bytes(), false).rattle_read_to_string(&mut text).unwrap(), wanted.len());
         assert!(text[1..] == *wanted);
         text.truncate(1);
-        assert_eq!(wanted.as_bytes().read_to_string_in(&mut text).unwrap(), wanted.len());
+        assert_eq!(wanted.as_bytes().rattle_read_to_string(&mut text).unwrap(), wanted.len());
         assert!(text[1..] == *wanted);
-        let mut lines = io::BufReader::with_capacity(3, Slow(wanted.as_bytes(), false)).lines_in(Global);
+        let mut lines = io::BufReader::with_capacity(3, Slow(wanted.as_bytes(), false)).rattle_lines(Global);
         assert!(*lines.next().unwrap().unwrap() == *wanted && lines.next().is_none());
         let mut bytes = Vec::new(Global);
         assert_eq!(bytes.write(wanted.as_bytes()).unwrap(), wanted.len());
         assert!(*bytes == *wanted.as_bytes());
     }
     // After a line that isn't UTF-8 the iterator continues with the next line.
-    let lines = b"a\n\xff\nb\n".as_slice().lines_in(Global);
+    let lines = b"a\n\xff\nb\n".as_slice().rattle_lines(Global);
     let lines: std::vec::Vec<_> = lines.map(|line| line.ok().map(std::string::String::from)).collect();
     assert_eq!(lines, [Some("a".to_string()), None, Some("b".to_string())]);
 }
@@ -694,11 +694,11 @@ fn errors_of_readers() {
             }
         }
         let (mut bytes, mut text) = (Vec::new(Global), String::new(Global));
-        let read = b"ab".as_slice().chain(Fails(kind)).read_to_end_in(&mut bytes);
+        let read = b"ab".as_slice().chain(Fails(kind)).rattle_read_to_end(&mut bytes);
         assert_eq!((read.unwrap_err().kind(), &*bytes), (kind, &b"ab"[..]));
-        let read = b"ab".as_slice().chain(Fails(kind)).read_to_string_in(&mut text);
+        let read = b"ab".as_slice().chain(Fails(kind)).rattle_read_to_string(&mut text);
         assert_eq!((read.unwrap_err().kind(), &*text), (kind, ""));
-        let read = io::BufReader::new(b"ab".as_slice().chain(Fails(kind))).read_line_in(&mut text);
+        let read = io::BufReader::new(b"ab".as_slice().chain(Fails(kind))).rattle_read_line(&mut text);
         assert_eq!((read.unwrap_err().kind(), &*text), (kind, ""));
     }
 }

@@ -31,7 +31,7 @@ fn no_feature_is_on_by_default() {
 not_taken! {
     AllocError AllocFailed Buffer Bytes Cursor DecodeError Global IntoError LiteralError Sink Steps VarintError
     MAX_LITERAL_LEN RELEASE cursor huffman_text_len memory more proved put_huffman_encoded put_string unfit varint_fits
-    varint_len_unchecked verified writer
+    verified writer
 }
 
 /// A type that no method of the crate takes.

@@ -129,13 +129,13 @@ impl<B: Bytes> Cursor<B> {
     /// ```
     #[inline]
     pub fn to_vec(&self, alloc: Global) -> Result<Vec<u8>, AllocError> {
-        self.to_vec_in(alloc)
+        vec_of(alloc, self.as_ref())
     }
 
     #[doc(hidden)]
     #[inline]
-    pub fn to_vec_in(&self, alloc: Global) -> Result<Vec<u8>, AllocError> {
-        vec_of(alloc, self.as_ref())
+    pub fn rattle_to_vec(&self, alloc: Global) -> Result<Vec<u8>, AllocError> {
+        self.to_vec(alloc)
     }
 }
 

@@ -27,5 +27,5 @@ pub use error::{BufferTooShortError, DecodeError, IntoError, Result, VarintError
 pub use huffman::{
     Pending, cased_byte, huffman_encoding_len, huffman_text_len, put_huffman_encoded,
 };
-pub use varint::{MAX_VAR_INT, varint_fits, varint_len, varint_len_unchecked, varint_parse_len};
+pub use varint::{MAX_VAR_INT, varint_fits, varint_len, varint_parse_len};
 pub use writer::OctetsWriter;

@@ -18,5 +18,5 @@ pub(crate) fn vec_of(alloc: Global, bytes: &[u8]) -> Result<Vec<u8>, AllocError>
     if bytes.is_empty() {
         return Ok(Vec::new(alloc));
     }
-    bytes.to_vec_in(alloc)
+    bytes.rattle_to_vec(alloc)
 }

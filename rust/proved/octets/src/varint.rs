@@ -20,16 +20,10 @@ pub const MAX_VAR_INT: u64 = 4_611_686_018_427_387_903;
 ///
 /// - `v < 2 ^ 62`
 #[inline]
-#[track_caller]
+#[cfg_attr(feature = "checked", track_caller)]
 pub const fn varint_len(v: u64) -> usize {
     #[cfg(feature = "checked")]
     ::core::assert!((v as u128) < (1u128 << 62), "`varint_len` requires `v < 2 ^ 62`");
-    varint_len_unchecked(v)
-}
-
-#[doc(hidden)]
-#[inline]
-pub const fn varint_len_unchecked(v: u64) -> usize {
     if v < 1 << 6 {
         1
     } else if v < 1 << 14 {
@@ -106,7 +100,7 @@ pub(crate) fn read_varint_shortest(
     let Ok((width, value)) = read_varint(bytes, from) else {
         return Err(VarintError::Short);
     };
-    if varint_len_unchecked(value) < width {
+    if varint_len(value) < width {
         return Err(VarintError::Overlong);
     }
     Ok(value)

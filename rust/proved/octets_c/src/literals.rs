@@ -6,7 +6,7 @@ use crate::cursors::{at, write_at};
 use crate::huffman::{stop_status, stop_written};
 use crate::status::{DONE, LONG, NO_ROOM, SHORT};
 use octets::{OctetsMut, Result};
-use octets_literal::{LiteralError, MAX_LITERAL_LEN, ValueError, read_string_into, write_string, write_string_unchecked};
+use octets_literal::{LiteralError, MAX_LITERAL_LEN, ValueError, read_string_into, write_string};
 
 /// Returns the status for a fault of a value.
 #[inline]
@@ -72,9 +72,9 @@ pub fn octets_get_string(
 #[inline]
 fn put_literal(cursor: &mut OctetsMut<'_>, value: &[u8], lower_case: bool) -> Result<()> {
     if lower_case {
-        write_string_unchecked::<true>(cursor, value)
+        write_string::<true>(cursor, value)
     } else {
-        write_string_unchecked::<false>(cursor, value)
+        write_string::<false>(cursor, value)
     }
 }
 

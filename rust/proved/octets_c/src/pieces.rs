@@ -34,7 +34,7 @@ fn holds_bits(place: &Place) -> bool {
 /// - `HoldsBits place.old`
 #[inline]
 fn push_code(place: &mut Place, byte: u8) -> Option<u64> {
-    let mut pending = Pending::of_bits_unchecked(place.count, place.bits);
+    let mut pending = Pending::of_bits(place.count, place.bits);
     let word = pending.push_code(byte);
     place.count = pending.count();
     place.bits = pending.bits();

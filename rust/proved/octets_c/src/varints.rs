@@ -4,7 +4,7 @@ use rattle_std::{self as std, prelude::*};
 
 use crate::cursors::at_byte;
 use crate::status::{DONE, OVERLONG, SHORT};
-use octets::{MAX_VAR_INT, VarintError, varint_len, varint_len_unchecked};
+use octets::{MAX_VAR_INT, VarintError, varint_len};
 
 /// Reads a varint of any width. A value may have a greater width than it needs.
 ///
@@ -49,5 +49,5 @@ pub fn octets_varint_len(value: u64) -> usize {
     if value > MAX_VAR_INT {
         return 0;
     }
-    varint_len_unchecked(value)
+    varint_len(value)
 }

@@ -4,7 +4,7 @@ use rattle_std::{self as std, prelude::*};
 
 use crate::cursors::write_at;
 use crate::status::{DONE, LONG, SHORT, UNFIT};
-use octets::{BufferTooShortError, MAX_VAR_INT, OctetsMut, Result, varint_fits, varint_len, varint_len_unchecked};
+use octets::{BufferTooShortError, MAX_VAR_INT, OctetsMut, Result, varint_fits, varint_len};
 
 /// Writes all bytes of `value`. It fails if fewer bytes remain, and then changes nothing.
 #[inline]
@@ -60,7 +60,7 @@ pub fn octets_put_varint(bytes: &mut [u8], off: &mut usize, value: u64) -> u8 {
     if value > MAX_VAR_INT {
         return UNFIT;
     }
-    write_at!(bytes, off, cursor => cursor.write_varint_unchecked(value))
+    write_at!(bytes, off, cursor => cursor.write_varint(value))
 }
 
 /// Writes `value` as a varint of `width` bytes (RFC 9000, section 16).
@@ -77,7 +77,7 @@ pub fn octets_put_varint_with_len(
     if !varint_fits(value, width) {
         return UNFIT;
     }
-    write_at!(bytes, off, cursor => cursor.write_varint_with_len_unchecked(value, width))
+    write_at!(bytes, off, cursor => cursor.write_varint_with_len(value, width))
 }
 
 /// Writes the length of `value` at the cursor, as a varint of the least width, and then `value`.
@@ -88,10 +88,10 @@ pub fn octets_put_varint_with_len(
 #[inline]
 fn put_parts(cursor: &mut OctetsMut<'_>, value: &[u8]) -> Result<()> {
     let len = value.len() as u64;
-    if cursor.cap() < varint_len_unchecked(len) + value.len() {
+    if cursor.cap() < varint_len(len) + value.len() {
         return Err(BufferTooShortError);
     }
-    cursor.write_varint_unchecked(len)?;
+    cursor.write_varint(len)?;
     cursor.put_bytes(value)
 }
 

@@ -68,16 +68,10 @@ impl State {
     /// - `len ≤ 3`
     /// - `bits < 2 ^ len`
     #[inline(always)]
-    #[track_caller]
+    #[cfg_attr(feature = "checked", track_caller)]
     pub fn of_front(len: u8, bits: u8) -> State {
         #[cfg(feature = "checked")]
         ::core::assert!((len as u128) <= 3u128, "`of_front` requires `len ≤ 3`");
-        Self::of_front_unchecked(len, bits)
-    }
-
-    #[doc(hidden)]
-    #[inline(always)]
-    pub fn of_front_unchecked(len: u8, bits: u8) -> State {
         State {
             index: FRONTS[(1 << len | bits) as usize],
         }
@@ -106,16 +100,10 @@ impl State {
     /// - `nibble < 16`
     /// - `steps.old + 1 < 2 ^ 128`
     #[inline(always)]
-    #[track_caller]
+    #[cfg_attr(feature = "checked", track_caller)]
     pub fn step(self, nibble: u8, steps: &mut Steps) -> Step {
         #[cfg(feature = "checked")]
         ::core::assert!((nibble as u128) < 16u128, "`step` requires `nibble < 16`");
-        self.step_unchecked(nibble, steps)
-    }
-
-    #[doc(hidden)]
-    #[inline(always)]
-    pub fn step_unchecked(self, nibble: u8, steps: &mut Steps) -> Step {
         steps.add_one();
         step_of(nibble_move(self.index, nibble))
     }

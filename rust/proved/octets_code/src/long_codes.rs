@@ -22,18 +22,12 @@ pub struct Coded {
 /// - `ones ≤ 30`
 /// - `more < 32`
 #[inline(always)]
-#[track_caller]
+#[cfg_attr(feature = "checked", track_caller)]
 pub fn code_behind(ones: u32, more: u8) -> Option<Coded> {
     #[cfg(feature = "checked")]
     ::core::assert!((ones as u128) <= 30u128, "`code_behind` requires `ones ≤ 30`");
     #[cfg(feature = "checked")]
     ::core::assert!((more as u128) < 32u128, "`code_behind` requires `more < 32`");
-    code_behind_unchecked(ones, more)
-}
-
-#[doc(hidden)]
-#[inline(always)]
-pub fn code_behind_unchecked(ones: u32, more: u8) -> Option<Coded> {
     let entry = entry_at(ones, more);
     let symbol = entry >> 5;
     if symbol > 255 {

@@ -19,16 +19,10 @@ pub struct Look {
 ///
 /// - `index < 4096`
 #[inline(always)]
-#[track_caller]
+#[cfg_attr(feature = "checked", track_caller)]
 pub fn look_at(index: u16) -> Look {
     #[cfg(feature = "checked")]
     ::core::assert!((index as u128) < 4096u128, "`look_at` requires `index < 4096`");
-    look_at_unchecked(index)
-}
-
-#[doc(hidden)]
-#[inline(always)]
-pub fn look_at_unchecked(index: u16) -> Look {
     Look {
         cut: CUTS[index as usize],
         pair: PAIRS[index as usize],

@@ -14,16 +14,10 @@ use crate::tables::lengths::CODE_LENGTHS;
 ///
 /// - `sym ≤ 256`
 #[inline(always)]
-#[track_caller]
+#[cfg_attr(feature = "checked", track_caller)]
 pub fn code_of(sym: u16) -> Code {
     #[cfg(feature = "checked")]
     ::core::assert!((sym as u128) <= 256u128, "`code_of` requires `sym ≤ 256`");
-    code_of_unchecked(sym)
-}
-
-#[doc(hidden)]
-#[inline(always)]
-pub fn code_of_unchecked(sym: u16) -> Code {
     // Each field is copied by itself. If the whole code is copied, the compiler loads it as one
     // word, and then takes it apart.
     let code = &CODES[sym as usize];
@@ -48,7 +42,7 @@ pub fn code_len(byte: u8) -> u32 {
 #[inline]
 pub fn lookup(len: u8, bits: u32) -> Option<u16> {
     for symbol in 0..257 {
-        let code = code_of_unchecked(symbol);
+        let code = code_of(symbol);
         if code.len == len && code.bits == bits {
             return Some(symbol);
         }

@@ -62,16 +62,10 @@ pub fn read_dns_flags(cursor: &mut Octets<'_>) -> Result<DnsFlags> {
 ///
 /// - `(flags.opcode < 16) × (flags.rcode < 16)`
 #[inline]
-#[track_caller]
+#[cfg_attr(feature = "checked", track_caller)]
 pub fn write_dns_flags(cursor: &mut OctetsMut<'_>, flags: DnsFlags) -> Result<()> {
     #[cfg(feature = "checked")]
     ::core::assert!((flags.opcode as u128) < 16u128 && (flags.rcode as u128) < 16u128, "`write_dns_flags` requires `(flags.opcode < 16) × (flags.rcode < 16)`");
-    write_dns_flags_unchecked(cursor, flags)
-}
-
-#[doc(hidden)]
-#[inline]
-pub fn write_dns_flags_unchecked(cursor: &mut OctetsMut<'_>, flags: DnsFlags) -> Result<()> {
     let top = if flags.response { 32768 } else { 0 };
     cursor.write_u16(top + u16::from(flags.opcode) * 2048 + u16::from(flags.rcode))
 }

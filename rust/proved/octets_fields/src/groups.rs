@@ -73,16 +73,10 @@ pub fn read_len(cursor: &mut Octets<'_>) -> std::result::Result<u32, LenError> {
 ///
 /// - `n < 2 ^ 28`
 #[inline]
-#[track_caller]
+#[cfg_attr(feature = "checked", track_caller)]
 pub fn write_len(cursor: &mut OctetsMut<'_>, n: u32) -> Result<()> {
     #[cfg(feature = "checked")]
     ::core::assert!((n as u128) < (1u128 << 28), "`write_len` requires `n < 2 ^ 28`");
-    write_len_unchecked(cursor, n)
-}
-
-#[doc(hidden)]
-#[inline]
-pub fn write_len_unchecked(cursor: &mut OctetsMut<'_>, n: u32) -> Result<()> {
     if n < 128 {
         return cursor.write_u8(n as u8);
     }

@@ -27,16 +27,10 @@ pub fn read_by_width(cursor: &mut Octets<'_>, flags: u8) -> Result<u32> {
 ///
 /// - `(1 ≤ width) × (width ≤ 4) × (n < 2 ^ (8 * width))`
 #[inline]
-#[track_caller]
+#[cfg_attr(feature = "checked", track_caller)]
 pub fn write_by_width(cursor: &mut OctetsMut<'_>, n: u32, width: u8) -> Result<()> {
     #[cfg(feature = "checked")]
     ::core::assert!(1u128 <= (width as u128) && (width as u128) <= 4u128 && (n as u128) < (if let exponent @ 0..=126 = (8u128.saturating_mul((width as u128))) { 1u128 << exponent } else { u128::MAX }), "`write_by_width` requires `(1 ≤ width) × (width ≤ 4) × (n < 2 ^ (8 * width))`");
-    write_by_width_unchecked(cursor, n, width)
-}
-
-#[doc(hidden)]
-#[inline]
-pub fn write_by_width_unchecked(cursor: &mut OctetsMut<'_>, n: u32, width: u8) -> Result<()> {
     match width {
         1 => cursor.write_u8(n as u8),
         2 => cursor.write_u16(n as u16),

@@ -22,16 +22,10 @@ pub fn read_u48(cursor: &mut Octets<'_>) -> Result<u64> {
 ///
 /// - `n < 2 ^ 48`
 #[inline]
-#[track_caller]
+#[cfg_attr(feature = "checked", track_caller)]
 pub fn write_u48(cursor: &mut OctetsMut<'_>, n: u64) -> Result<()> {
     #[cfg(feature = "checked")]
     ::core::assert!((n as u128) < (1u128 << 48), "`write_u48` requires `n < 2 ^ 48`");
-    write_u48_unchecked(cursor, n)
-}
-
-#[doc(hidden)]
-#[inline]
-pub fn write_u48_unchecked(cursor: &mut OctetsMut<'_>, n: u64) -> Result<()> {
     cursor.write_u16((n / 4294967296) as u16)?;
     cursor.write_u32((n % 4294967296) as u32)
 }

@@ -78,16 +78,10 @@ fn write_padding(cursor: &mut OctetsMut<'_>, len: usize) -> Result<()> {
 ///
 /// - `length v.now < 2 ^ 16`
 #[inline]
-#[track_caller]
+#[cfg_attr(feature = "checked", track_caller)]
 pub fn write_padded(cursor: &mut OctetsMut<'_>, v: &[u8]) -> Result<()> {
     #[cfg(feature = "checked")]
     ::core::assert!((v.len() as u128) < (1u128 << 16), "`write_padded` requires `length v.now < 2 ^ 16`");
-    write_padded_unchecked(cursor, v)
-}
-
-#[doc(hidden)]
-#[inline]
-pub fn write_padded_unchecked(cursor: &mut OctetsMut<'_>, v: &[u8]) -> Result<()> {
     cursor.write_u16(v.len() as u16)?;
     cursor.put_bytes(v)?;
     write_padding(cursor, v.len())

@@ -2,7 +2,7 @@
 //! A QUIC datagram that is written into a buffer and read back.
 use rattle_std::{self as std, prelude::*};
 
-use octets::{Buffer, BufferTooShortError, Cursor, Octets, OctetsMut, Result, varint_len, varint_len_unchecked};
+use octets::{Buffer, BufferTooShortError, Cursor, Octets, OctetsMut, Result, varint_len};
 
 /// A DATAGRAM frame with a length field (RFC 9221, section 4).
 #[derive(Debug, PartialEq, Eq)]
@@ -23,24 +23,18 @@ pub struct Datagram<'a> {
 /// - `kind < 64`
 /// - `length payload.now < 2 ^ 62`
 #[inline]
-#[track_caller]
+#[cfg_attr(feature = "checked", track_caller)]
 pub fn write_datagram<B: Buffer>(cursor: &mut Cursor<B>, kind: u8, payload: &[u8]) -> Result<()> {
     #[cfg(feature = "checked")]
     ::core::assert!((kind as u128) < 64u128, "`write_datagram` requires `kind < 64`");
     #[cfg(feature = "checked")]
     ::core::assert!((payload.len() as u128) < (1u128 << 62), "`write_datagram` requires `length payload.now < 2 ^ 62`");
-    write_datagram_unchecked::<B>(cursor, kind, payload)
-}
-
-#[doc(hidden)]
-#[inline]
-pub fn write_datagram_unchecked<B: Buffer>(cursor: &mut Cursor<B>, kind: u8, payload: &[u8]) -> Result<()> {
     let len = payload.len() as u64;
-    if cursor.cap() < 1 + varint_len_unchecked(len) + payload.len() {
+    if cursor.cap() < 1 + varint_len(len) + payload.len() {
         return Err(BufferTooShortError);
     }
     cursor.write_u8(kind)?;
-    cursor.write_varint_unchecked(len)?;
+    cursor.write_varint(len)?;
     cursor.put_bytes(payload)
 }
 
@@ -65,7 +59,7 @@ pub fn read_datagram<'a>(cursor: &mut Octets<'a>) -> Result<Datagram<'a>> {
 #[inline]
 fn write_at_start(buffer: &mut [u8], kind: u8, payload: &[u8]) -> Result<usize> {
     let mut writer = OctetsMut::with_slice(buffer);
-    write_datagram_unchecked(&mut writer, kind, payload)?;
+    write_datagram(&mut writer, kind, payload)?;
     Ok(writer.off())
 }
 
@@ -79,18 +73,12 @@ fn write_at_start(buffer: &mut [u8], kind: u8, payload: &[u8]) -> Result<usize> 
 /// - `kind < 64`
 /// - `length payload.now < 2 ^ 62`
 #[inline]
-#[track_caller]
+#[cfg_attr(feature = "checked", track_caller)]
 pub fn write_and_read<'a>(buffer: &'a mut [u8], kind: u8, payload: &[u8]) -> Result<Datagram<'a>> {
     #[cfg(feature = "checked")]
     ::core::assert!((kind as u128) < 64u128, "`write_and_read` requires `kind < 64`");
     #[cfg(feature = "checked")]
     ::core::assert!((payload.len() as u128) < (1u128 << 62), "`write_and_read` requires `length payload.now < 2 ^ 62`");
-    write_and_read_unchecked(buffer, kind, payload)
-}
-
-#[doc(hidden)]
-#[inline]
-pub fn write_and_read_unchecked<'a>(buffer: &'a mut [u8], kind: u8, payload: &[u8]) -> Result<Datagram<'a>> {
     let end = write_at_start(buffer, kind, payload)?;
     read_datagram(&mut Octets::with_slice(&buffer[..end]))
 }

@@ -2,7 +2,7 @@
 //! HTTP/3 frames (RFC 9114, section 7.1): a type, a length, and as many bytes of payload.
 use rattle_std::{self as std, prelude::*};
 
-use octets::{Buffer, BufferTooShortError, Cursor, Octets, Result, varint_len, varint_len_unchecked};
+use octets::{Buffer, BufferTooShortError, Cursor, Octets, Result, varint_len};
 
 /// A frame.
 #[derive(Debug, PartialEq, Eq)]
@@ -44,23 +44,17 @@ pub fn next_frame<'a>(cursor: &mut Octets<'a>) -> Result<Frame<'a>> {
 /// - `kind < 2 ^ 62`
 /// - `length payload.now < 2 ^ 62`
 #[inline]
-#[track_caller]
+#[cfg_attr(feature = "checked", track_caller)]
 pub fn put_frame<B: Buffer>(cursor: &mut Cursor<B>, kind: u64, payload: &[u8]) -> Result<()> {
     #[cfg(feature = "checked")]
     ::core::assert!((kind as u128) < (1u128 << 62), "`put_frame` requires `kind < 2 ^ 62`");
     #[cfg(feature = "checked")]
     ::core::assert!((payload.len() as u128) < (1u128 << 62), "`put_frame` requires `length payload.now < 2 ^ 62`");
-    put_frame_unchecked::<B>(cursor, kind, payload)
-}
-
-#[doc(hidden)]
-#[inline]
-pub fn put_frame_unchecked<B: Buffer>(cursor: &mut Cursor<B>, kind: u64, payload: &[u8]) -> Result<()> {
     let len = payload.len() as u64;
-    if cursor.cap() < varint_len_unchecked(kind) + varint_len_unchecked(len) + payload.len() {
+    if cursor.cap() < varint_len(kind) + varint_len(len) + payload.len() {
         return Err(BufferTooShortError);
     }
-    cursor.write_varint_unchecked(kind)?;
-    cursor.write_varint_unchecked(len)?;
+    cursor.write_varint(kind)?;
+    cursor.write_varint(len)?;
     cursor.put_bytes(payload)
 }

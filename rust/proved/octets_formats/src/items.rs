@@ -20,16 +20,10 @@ pub fn read_item<'a>(cursor: &mut Octets<'a>) -> Result<(u16, Octets<'a>)> {
 ///
 /// - `length body.now < 2 ^ 16`
 #[inline]
-#[track_caller]
+#[cfg_attr(feature = "checked", track_caller)]
 pub fn write_item(cursor: &mut OctetsMut<'_>, kind: u16, body: &[u8]) -> Result<()> {
     #[cfg(feature = "checked")]
     ::core::assert!((body.len() as u128) < (1u128 << 16), "`write_item` requires `length body.now < 2 ^ 16`");
-    write_item_unchecked(cursor, kind, body)
-}
-
-#[doc(hidden)]
-#[inline]
-pub fn write_item_unchecked(cursor: &mut OctetsMut<'_>, kind: u16, body: &[u8]) -> Result<()> {
     cursor.write_u16(kind)?;
     cursor.write_u16(body.len() as u16)?;
     cursor.put_bytes(body)

@@ -29,17 +29,11 @@ fn write_fields(part: &mut [u8], kind: u8, number: u16) {
 ///
 /// - `3 ≤ length (rest cursor.old)`
 #[inline]
-#[track_caller]
+#[cfg_attr(feature = "checked", track_caller)]
 pub fn put_fields(cursor: &mut OctetsMut<'_>, kind: u8, number: u16) {
     #[cfg(feature = "checked")]
     ::core::assert!(3u128 <= (cursor.cap() as u128), "`put_fields` requires `3 ≤ length (rest cursor.old)`");
-    put_fields_unchecked(cursor, kind, number)
-}
-
-#[doc(hidden)]
-#[inline]
-pub fn put_fields_unchecked(cursor: &mut OctetsMut<'_>, kind: u8, number: u16) {
-    write_fields(cursor.lend_unchecked(3), kind, number);
+    write_fields(cursor.lend(3), kind, number);
 }
 
 /// Does the same, stated as a write.
@@ -48,15 +42,9 @@ pub fn put_fields_unchecked(cursor: &mut OctetsMut<'_>, kind: u8, number: u16) {
 ///
 /// - `3 ≤ length (rest cursor.old)`
 #[inline]
-#[track_caller]
+#[cfg_attr(feature = "checked", track_caller)]
 pub fn write_by_loan(cursor: &mut OctetsMut<'_>, kind: u8, number: u16) {
     #[cfg(feature = "checked")]
     ::core::assert!(3u128 <= (cursor.cap() as u128), "`write_by_loan` requires `3 ≤ length (rest cursor.old)`");
-    write_by_loan_unchecked(cursor, kind, number)
-}
-
-#[doc(hidden)]
-#[inline]
-pub fn write_by_loan_unchecked(cursor: &mut OctetsMut<'_>, kind: u8, number: u16) {
-    put_fields_unchecked(cursor, kind, number);
+    put_fields(cursor, kind, number);
 }

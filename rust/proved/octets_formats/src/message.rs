@@ -25,16 +25,10 @@ pub fn get_bytes_with_u24_length<'a>(cursor: &mut Octets<'a>) -> Result<Octets<'
 ///
 /// - `length v.now < 2 ^ 24`
 #[inline]
-#[track_caller]
+#[cfg_attr(feature = "checked", track_caller)]
 pub fn put_bytes_with_u24_length<B: Buffer>(cursor: &mut Cursor<B>, v: &[u8]) -> Result<()> {
     #[cfg(feature = "checked")]
     ::core::assert!((v.len() as u128) < (1u128 << 24), "`put_bytes_with_u24_length` requires `length v.now < 2 ^ 24`");
-    put_bytes_with_u24_length_unchecked::<B>(cursor, v)
-}
-
-#[doc(hidden)]
-#[inline]
-pub fn put_bytes_with_u24_length_unchecked<B: Buffer>(cursor: &mut Cursor<B>, v: &[u8]) -> Result<()> {
     if cursor.cap() < 3 + v.len() {
         return Err(BufferTooShortError);
     }
@@ -52,7 +46,7 @@ pub fn put_bytes_with_u24_length_unchecked<B: Buffer>(cursor: &mut Cursor<B>, v:
 ///
 /// - `4 + length sections.now < 2 ^ 16`
 #[inline]
-#[track_caller]
+#[cfg_attr(feature = "checked", track_caller)]
 pub fn put_message<B: Buffer>(
     cursor: &mut Cursor<B>,
     id: u16,
@@ -61,17 +55,6 @@ pub fn put_message<B: Buffer>(
 ) -> Result<()> {
     #[cfg(feature = "checked")]
     ::core::assert!(4u128.saturating_add((sections.len() as u128)) < (1u128 << 16), "`put_message` requires `4 + length sections.now < 2 ^ 16`");
-    put_message_unchecked::<B>(cursor, id, flags, sections)
-}
-
-#[doc(hidden)]
-#[inline]
-pub fn put_message_unchecked<B: Buffer>(
-    cursor: &mut Cursor<B>,
-    id: u16,
-    flags: u16,
-    sections: &[u8],
-) -> Result<()> {
     if cursor.cap() < 6 + sections.len() {
         return Err(BufferTooShortError);
     }
@@ -92,17 +75,11 @@ pub fn put_message_unchecked<B: Buffer>(
 ///
 /// - `4 + length sections.now < 2 ^ 16`
 #[inline]
-#[track_caller]
+#[cfg_attr(feature = "checked", track_caller)]
 pub fn write_message(buffer: &mut [u8], id: u16, flags: u16, sections: &[u8]) -> Result<usize> {
     #[cfg(feature = "checked")]
     ::core::assert!(4u128.saturating_add((sections.len() as u128)) < (1u128 << 16), "`write_message` requires `4 + length sections.now < 2 ^ 16`");
-    write_message_unchecked(buffer, id, flags, sections)
-}
-
-#[doc(hidden)]
-#[inline]
-pub fn write_message_unchecked(buffer: &mut [u8], id: u16, flags: u16, sections: &[u8]) -> Result<usize> {
     let mut cursor = OctetsMut::with_slice(buffer);
-    put_message_unchecked(&mut cursor, id, flags, sections)?;
+    put_message(&mut cursor, id, flags, sections)?;
     Ok(cursor.off())
 }

@@ -21,7 +21,7 @@
 //! back.
 use rattle_std::{self as std, prelude::*};
 
-use octets::{Buffer, BufferTooShortError, Cursor, Octets, Result, varint_len, varint_len_unchecked};
+use octets::{Buffer, BufferTooShortError, Cursor, Octets, Result, varint_len};
 
 /// Why no frame was read.
 #[derive(Clone, Copy, Debug, PartialEq, Eq)]
@@ -166,7 +166,7 @@ fn byte_of(kind: StreamType) -> u8 {
 /// - `n < 2 ^ 62`
 #[inline]
 fn len_if(is_there: bool, n: u64) -> usize {
-    if is_there { varint_len_unchecked(n) } else { 0 }
+    if is_there { varint_len(n) } else { 0 }
 }
 
 /// Returns how many bytes a frame has.
@@ -178,7 +178,7 @@ fn len_if(is_there: bool, n: u64) -> usize {
 /// - `length payload.now < 2 ^ 62`
 #[inline]
 fn frame_len(kind: StreamType, id: u64, offset: u64, payload: &[u8]) -> usize {
-    1 + varint_len_unchecked(id)
+    1 + varint_len(id)
         + len_if(kind.has_offset, offset)
         + len_if(kind.has_length, payload.len() as u64)
         + payload.len()
@@ -192,7 +192,7 @@ fn frame_len(kind: StreamType, id: u64, offset: u64, payload: &[u8]) -> usize {
 #[inline]
 fn write_if<B: Buffer>(cursor: &mut Cursor<B>, is_there: bool, n: u64) -> Result<()> {
     if is_there {
-        cursor.write_varint_unchecked(n)
+        cursor.write_varint(n)
     } else {
         Ok(())
     }
@@ -214,7 +214,7 @@ fn write_fields<B: Buffer>(
     payload: &[u8],
 ) -> Result<()> {
     cursor.write_u8(byte_of(kind))?;
-    cursor.write_varint_unchecked(id)?;
+    cursor.write_varint(id)?;
     write_if(cursor, kind.has_offset, offset)?;
     write_if(cursor, kind.has_length, payload.len() as u64)?;
     cursor.put_bytes(payload)
@@ -233,7 +233,7 @@ fn write_fields<B: Buffer>(
 /// - `offset < 2 ^ 62`
 /// - `length payload.now < 2 ^ 62`
 #[inline]
-#[track_caller]
+#[cfg_attr(feature = "checked", track_caller)]
 pub fn write_stream<B: Buffer>(
     cursor: &mut Cursor<B>,
     kind: StreamType,
@@ -247,18 +247,6 @@ pub fn write_stream<B: Buffer>(
     ::core::assert!((offset as u128) < (1u128 << 62), "`write_stream` requires `offset < 2 ^ 62`");
     #[cfg(feature = "checked")]
     ::core::assert!((payload.len() as u128) < (1u128 << 62), "`write_stream` requires `length payload.now < 2 ^ 62`");
-    write_stream_unchecked::<B>(cursor, kind, id, offset, payload)
-}
-
-#[doc(hidden)]
-#[inline]
-pub fn write_stream_unchecked<B: Buffer>(
-    cursor: &mut Cursor<B>,
-    kind: StreamType,
-    id: u64,
-    offset: u64,
-    payload: &[u8],
-) -> Result<()> {
     if frame_len(kind, id, offset, payload) > cursor.cap() {
         return Err(BufferTooShortError);
     }

@@ -20,7 +20,7 @@ pub fn read_names(
     let mut names = Vec::new(alloc);
     'names: while names.len() < n {
         let name = cursor.get_bytes_with_u8_length()?;
-        let copy = name.to_vec_in(alloc)?;
+        let copy = name.rattle_to_vec(alloc)?;
         names.push(copy)?;
     }
     Ok(names)

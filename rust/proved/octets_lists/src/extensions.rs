@@ -22,16 +22,10 @@ pub struct Extension<'a> {
 ///
 /// - `length one.now.value.now < 2 ^ 16`
 #[inline]
-#[track_caller]
+#[cfg_attr(feature = "checked", track_caller)]
 pub fn write_extension(cursor: &mut OctetsMut<'_>, one: &Extension<'_>) -> Result<()> {
     #[cfg(feature = "checked")]
     ::core::assert!((one.value.len() as u128) < (1u128 << 16), "`write_extension` requires `length one.now.value.now < 2 ^ 16`");
-    write_extension_unchecked(cursor, one)
-}
-
-#[doc(hidden)]
-#[inline]
-pub fn write_extension_unchecked(cursor: &mut OctetsMut<'_>, one: &Extension<'_>) -> Result<()> {
     cursor.write_u16(one.kind)?;
     cursor.write_u16(one.value.len() as u16)?;
     cursor.put_bytes(one.value)
@@ -45,7 +39,7 @@ pub fn write_extension_unchecked(cursor: &mut OctetsMut<'_>, one: &Extension<'_>
 #[inline]
 pub fn write_extensions(cursor: &mut OctetsMut<'_>, all: &[Extension<'_>]) -> Result<()> {
     for one in all {
-        write_extension_unchecked(cursor, one)?;
+        write_extension(cursor, one)?;
     }
     Ok(())
 }

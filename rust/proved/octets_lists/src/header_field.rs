@@ -5,7 +5,7 @@
 use rattle_std::{self as std, prelude::*};
 
 use octets::{BufferTooShortError, Octets, OctetsMut, OctetsWriter};
-use octets_literal::{LiteralError, get_string, put_string, put_string_unchecked, write_string, write_string_unchecked};
+use octets_literal::{LiteralError, get_string, put_string, write_string};
 use std::alloc::Global;
 use std::error::Error;
 use std::fmt;
@@ -120,7 +120,7 @@ pub fn read_field(
 /// - `length name.now ≤ 4294967295`
 /// - `length value.now ≤ 4294967295`
 #[inline]
-#[track_caller]
+#[cfg_attr(feature = "checked", track_caller)]
 pub fn write_field(
     cursor: &mut OctetsMut<'_>,
     indexing: Indexing,
@@ -131,20 +131,9 @@ pub fn write_field(
     ::core::assert!((name.len() as u128) <= 4294967295u128, "`write_field` requires `length name.now ≤ 4294967295`");
     #[cfg(feature = "checked")]
     ::core::assert!((value.len() as u128) <= 4294967295u128, "`write_field` requires `length value.now ≤ 4294967295`");
-    write_field_unchecked(cursor, indexing, name, value)
-}
-
-#[doc(hidden)]
-#[inline]
-pub fn write_field_unchecked(
-    cursor: &mut OctetsMut<'_>,
-    indexing: Indexing,
-    name: &[u8],
-    value: &[u8],
-) -> octets::Result<()> {
     cursor.write_u8(mark_of(indexing))?;
-    write_string_unchecked::<false>(cursor, name)?;
-    write_string_unchecked::<false>(cursor, value)
+    write_string::<false>(cursor, name)?;
+    write_string::<false>(cursor, value)
 }
 
 /// Appends a field to `sink`. The name and the value must have at most 4294967295 bytes each.
@@ -157,7 +146,7 @@ pub fn write_field_unchecked(
 /// - `length name.now ≤ 4294967295`
 /// - `length value.now ≤ 4294967295`
 #[inline]
-#[track_caller]
+#[cfg_attr(feature = "checked", track_caller)]
 pub fn put_field<W: OctetsWriter>(
     sink: &mut W,
     indexing: Indexing,
@@ -168,18 +157,7 @@ pub fn put_field<W: OctetsWriter>(
     ::core::assert!((name.len() as u128) <= 4294967295u128, "`put_field` requires `length name.now ≤ 4294967295`");
     #[cfg(feature = "checked")]
     ::core::assert!((value.len() as u128) <= 4294967295u128, "`put_field` requires `length value.now ≤ 4294967295`");
-    put_field_unchecked::<W>(sink, indexing, name, value)
-}
-
-#[doc(hidden)]
-#[inline]
-pub fn put_field_unchecked<W: OctetsWriter>(
-    sink: &mut W,
-    indexing: Indexing,
-    name: &[u8],
-    value: &[u8],
-) -> Result<(), W::Error> {
     sink.put_bytes(&[mark_of(indexing)])?;
-    put_string_unchecked::<false, W>(sink, name)?;
-    put_string_unchecked::<false, W>(sink, value)
+    put_string::<false, W>(sink, name)?;
+    put_string::<false, W>(sink, value)
 }

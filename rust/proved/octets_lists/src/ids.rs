@@ -18,7 +18,7 @@ use std::alloc::Global;
 #[inline]
 pub fn write_ids(cursor: &mut OctetsMut<'_>, ids: &[u64]) -> Result<()> {
     for id in ids {
-        cursor.write_varint_unchecked(*id)?;
+        cursor.write_varint(*id)?;
     }
     Ok(())
 }

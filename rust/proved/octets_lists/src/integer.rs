@@ -63,16 +63,10 @@ struct FirstGroups {
 ///
 /// - `size ≤ 8`
 #[inline]
-#[track_caller]
+#[cfg_attr(feature = "checked", track_caller)]
 pub fn read_integer(cursor: &mut Octets<'_>, size: u8) -> std::result::Result<Integer, IntegerError> {
     #[cfg(feature = "checked")]
     ::core::assert!((size as u128) <= 8u128, "`read_integer` requires `size ≤ 8`");
-    read_integer_unchecked(cursor, size)
-}
-
-#[doc(hidden)]
-#[inline]
-pub fn read_integer_unchecked(cursor: &mut Octets<'_>, size: u8) -> std::result::Result<Integer, IntegerError> {
     let found = find_integer(cursor.as_ref(), size)?;
     cursor.skip(found.width)?;
     Ok(Integer {

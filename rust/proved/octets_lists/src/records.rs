@@ -103,16 +103,10 @@ pub fn find_record<'a>(buffer: &'a [u8], kind: u8) -> octets::Result<Option<Octe
 ///
 /// - `length value.now < 256`
 #[inline]
-#[track_caller]
+#[cfg_attr(feature = "checked", track_caller)]
 pub fn put_record<B: Buffer>(cursor: &mut Cursor<B>, kind: u8, value: &[u8]) -> octets::Result<()> {
     #[cfg(feature = "checked")]
     ::core::assert!((value.len() as u128) < 256u128, "`put_record` requires `length value.now < 256`");
-    put_record_unchecked::<B>(cursor, kind, value)
-}
-
-#[doc(hidden)]
-#[inline]
-pub fn put_record_unchecked<B: Buffer>(cursor: &mut Cursor<B>, kind: u8, value: &[u8]) -> octets::Result<()> {
     if cursor.cap() < 2 + value.len() {
         return Err(BufferTooShortError);
     }

@@ -73,5 +73,5 @@ fn plain_value(alloc: Global, content: &[u8], max_len: usize) -> Result<Vec<u8>,
     if content.len() > max_len {
         return Err(LiteralError::Value);
     }
-    Ok(Octets::with_slice(content).to_vec_in(alloc)?)
+    Ok(Octets::with_slice(content).rattle_to_vec(alloc)?)
 }

@@ -22,5 +22,5 @@ pub use get::get_string;
 pub use get_into::{get_string_into, read_string_into};
 pub use length::MAX_LITERAL_LEN;
 pub use list::get_strings;
-pub use put::{put_string, put_string_unchecked};
-pub use write::{write_string, write_string_unchecked};
+pub use put::put_string;
+pub use write::write_string;

@@ -24,22 +24,13 @@ use octets::{OctetsWriter, huffman_encoding_len, put_huffman_encoded};
 ///
 /// - `length v.now ≤ 4294967295`
 #[inline]
-#[track_caller]
+#[cfg_attr(feature = "checked", track_caller)]
 pub fn put_string<const LOWER_CASE: bool, W: OctetsWriter>(
     sink: &mut W,
     v: &[u8],
 ) -> Result<(), W::Error> {
     #[cfg(feature = "checked")]
     ::core::assert!((v.len() as u128) <= 4294967295u128, "`put_string` requires `length v.now ≤ 4294967295`");
-    put_string_unchecked::<LOWER_CASE, W>(sink, v)
-}
-
-#[doc(hidden)]
-#[inline]
-pub fn put_string_unchecked<const LOWER_CASE: bool, W: OctetsWriter>(
-    sink: &mut W,
-    v: &[u8],
-) -> Result<(), W::Error> {
     put_parts::<LOWER_CASE, W>(sink, v)
 }
 

@@ -23,16 +23,10 @@ use octets::{BufferTooShortError, OctetsMut, Result};
 ///
 /// - `length v.now ≤ 4294967295`
 #[inline]
-#[track_caller]
+#[cfg_attr(feature = "checked", track_caller)]
 pub fn write_string<const LOWER_CASE: bool>(cursor: &mut OctetsMut<'_>, v: &[u8]) -> Result<()> {
     #[cfg(feature = "checked")]
     ::core::assert!((v.len() as u128) <= 4294967295u128, "`write_string` requires `length v.now ≤ 4294967295`");
-    write_string_unchecked::<LOWER_CASE>(cursor, v)
-}
-
-#[doc(hidden)]
-#[inline]
-pub fn write_string_unchecked<const LOWER_CASE: bool>(cursor: &mut OctetsMut<'_>, v: &[u8]) -> Result<()> {
     write_parts::<LOWER_CASE>(cursor, v)
 }
 
@@ -82,7 +76,7 @@ fn write_length(cursor: &mut OctetsMut<'_>, huffman: bool, len: usize) -> Result
 /// - `length v.now ≤ length (rest cursor.old)`
 #[inline]
 fn write_plain(cursor: &mut OctetsMut<'_>, v: &[u8], to_lower: bool) {
-    copy_cased(cursor.lend_unchecked(v.len()), v, to_lower);
+    copy_cased(cursor.lend(v.len()), v, to_lower);
 }
 
 /// Copies the bytes of `v` into `out`, in lower case if `to_lower` is true.

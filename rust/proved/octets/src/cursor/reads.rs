@@ -6,7 +6,7 @@ use crate::cursor::Cursor;
 use crate::cursor::buffer::Bytes;
 use crate::error::{Result, VarintError};
 use crate::number::{read_u8, read_u16, read_u24, read_u32, read_u64};
-use crate::varint::{read_varint, read_varint_shortest, varint_len, varint_len_unchecked};
+use crate::varint::{read_varint, read_varint_shortest, varint_len};
 
 /// Reads of numbers in network order. Each fails if and only if fewer bytes remain than its number
 /// has.
@@ -121,7 +121,7 @@ impl<B: Bytes> Cursor<B> {
     #[inline]
     pub fn get_varint_shortest(&mut self) -> std::result::Result<u64, VarintError> {
         let value = read_varint_shortest(self.buf.as_slice(), self.off)?;
-        self.advance(varint_len_unchecked(value));
+        self.advance(varint_len(value));
         Ok(value)
     }
 }

@@ -2,7 +2,7 @@
 //! The bits of codes that don't fill a word yet.
 use rattle_std::{self as std, prelude::*};
 
-use octets_code::{code_of, code_of_unchecked};
+use octets_code::code_of;
 
 /// The bits of codes that don't fill a word of 64 bits yet (RFC 7541, section 5.2). There are fewer
 /// than 64 of them. With this type you can write an encoder of your own that stops at any byte and
@@ -28,7 +28,7 @@ impl Pending {
     /// Returns the bits of the code of `byte`.
     #[inline]
     pub(super) fn of_byte(byte: u8) -> Pending {
-        let code = code_of_unchecked(u16::from(byte));
+        let code = code_of(u16::from(byte));
         let count = u32::from(code.len);
         Pending {
             count,
@@ -49,16 +49,10 @@ impl Pending {
     /// - `count < 64`
     /// - `bits % 2 ^ (64 - count) ≡ 0`
     #[inline]
-    #[track_caller]
+    #[cfg_attr(feature = "checked", track_caller)]
     pub fn of_bits(count: u32, bits: u64) -> Pending {
         #[cfg(feature = "checked")]
         ::core::assert!((count as u128) < 64u128, "`of_bits` requires `count < 64`");
-        Self::of_bits_unchecked(count, bits)
-    }
-
-    #[doc(hidden)]
-    #[inline]
-    pub fn of_bits_unchecked(count: u32, bits: u64) -> Pending {
         Pending { count, bits }
     }
 
@@ -105,7 +99,7 @@ impl Pending {
     /// ```
     #[inline]
     pub fn push_code(&mut self, byte: u8) -> Option<u64> {
-        let code = code_of_unchecked(u16::from(byte));
+        let code = code_of(u16::from(byte));
         self.push_bits(u32::from(code.len), u64::from(code.bits))
     }
 
@@ -113,8 +107,8 @@ impl Pending {
     /// 64 and returns them.
     #[inline]
     pub(super) fn push_pair(&mut self, first: u8, second: u8) -> Option<u64> {
-        let first = code_of_unchecked(u16::from(first));
-        let second = code_of_unchecked(u16::from(second));
+        let first = code_of(u16::from(first));
+        let second = code_of(u16::from(second));
         let len = u32::from(second.len);
         let bits = u64::from(first.bits) << len | u64::from(second.bits);
         self.push_bits(u32::from(first.len) + len, bits)

@@ -251,16 +251,10 @@ impl<'a> OctetsMut<'a> {
     ///
     /// - `v < 2 ^ 62`
     #[inline]
-    #[track_caller]
+    #[cfg_attr(feature = "checked", track_caller)]
     pub fn put_varint(&mut self, v: u64) -> Result<&mut [u8]> {
         #[cfg(feature = "checked")]
         ::core::assert!((v as u128) < (1u128 << 62), "`put_varint` requires `v < 2 ^ 62`");
-        self.put_varint_unchecked(v)
-    }
-
-    #[doc(hidden)]
-    #[inline]
-    pub fn put_varint_unchecked(&mut self, v: u64) -> Result<&mut [u8]> {
         let part = self.part_of_varint(v);
         self.lend_part(part)
     }
@@ -283,18 +277,12 @@ impl<'a> OctetsMut<'a> {
     /// - `IsWidth len`
     /// - `v < 2 ^ (8 * len - 2)`
     #[inline]
-    #[track_caller]
+    #[cfg_attr(feature = "checked", track_caller)]
     pub fn put_varint_with_len(&mut self, v: u64, len: usize) -> Result<&mut [u8]> {
         #[cfg(feature = "checked")]
         ::core::assert!(matches!(len, 1 | 2 | 4 | 8), "`put_varint_with_len` requires `IsWidth len`");
         #[cfg(feature = "checked")]
         ::core::assert!((v as u128) < (if let exponent @ 0..=126 = (8u128.saturating_mul((len as u128)).saturating_sub(2u128)) { 1u128 << exponent } else { u128::MAX }), "`put_varint_with_len` requires `v < 2 ^ (8 * len - 2)`");
-        self.put_varint_with_len_unchecked(v, len)
-    }
-
-    #[doc(hidden)]
-    #[inline]
-    pub fn put_varint_with_len_unchecked(&mut self, v: u64, len: usize) -> Result<&mut [u8]> {
         let part = self.part_of_varint_with_len(v, len);
         self.lend_part(part)
     }
@@ -306,16 +294,10 @@ impl<'a> OctetsMut<'a> {
     ///
     /// - `IsWidth len`
     #[inline]
-    #[track_caller]
+    #[cfg_attr(feature = "checked", track_caller)]
     pub fn put_marked(&mut self, v: u64, len: usize) -> Result<&mut [u8]> {
         #[cfg(feature = "checked")]
         ::core::assert!(matches!(len, 1 | 2 | 4 | 8), "`put_marked` requires `IsWidth len`");
-        self.put_marked_unchecked(v, len)
-    }
-
-    #[doc(hidden)]
-    #[inline]
-    pub fn put_marked_unchecked(&mut self, v: u64, len: usize) -> Result<&mut [u8]> {
         let part = self.part_of_marked(v, len);
         self.lend_part(part)
     }

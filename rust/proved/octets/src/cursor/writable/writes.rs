@@ -146,18 +146,12 @@ impl<B: Buffer> Cursor<B> {
     /// - `IsWidth len`
     /// - `v < 2 ^ (8 * len - 2)`
     #[inline]
-    #[track_caller]
+    #[cfg_attr(feature = "checked", track_caller)]
     pub fn write_varint_with_len(&mut self, v: u64, len: usize) -> Result<()> {
         #[cfg(feature = "checked")]
         ::core::assert!(matches!(len, 1 | 2 | 4 | 8), "`write_varint_with_len` requires `IsWidth len`");
         #[cfg(feature = "checked")]
         ::core::assert!((v as u128) < (if let exponent @ 0..=126 = (8u128.saturating_mul((len as u128)).saturating_sub(2u128)) { 1u128 << exponent } else { u128::MAX }), "`write_varint_with_len` requires `v < 2 ^ (8 * len - 2)`");
-        self.write_varint_with_len_unchecked(v, len)
-    }
-
-    #[doc(hidden)]
-    #[inline]
-    pub fn write_varint_with_len_unchecked(&mut self, v: u64, len: usize) -> Result<()> {
         match len {
             1 => self.write_u8(v as u8),
             2 => self.write_u16(v as u16 + 0x4000),
@@ -173,16 +167,10 @@ impl<B: Buffer> Cursor<B> {
     ///
     /// - `IsWidth len`
     #[inline]
-    #[track_caller]
+    #[cfg_attr(feature = "checked", track_caller)]
     pub fn write_marked(&mut self, v: u64, len: usize) -> Result<()> {
         #[cfg(feature = "checked")]
         ::core::assert!(matches!(len, 1 | 2 | 4 | 8), "`write_marked` requires `IsWidth len`");
-        self.write_marked_unchecked(v, len)
-    }
-
-    #[doc(hidden)]
-    #[inline]
-    pub fn write_marked_unchecked(&mut self, v: u64, len: usize) -> Result<()> {
         match len {
             1 => self.write_u8((v % 0x100) as u8),
             2 => self.write_u16((v % 0x1_0000) as u16 | 0x4000),
@@ -205,25 +193,19 @@ impl<B: Buffer> Cursor<B> {
     ///
     /// - `v < 2 ^ 62`
     #[inline]
-    #[track_caller]
+    #[cfg_attr(feature = "checked", track_caller)]
     pub fn write_varint(&mut self, v: u64) -> Result<()> {
         #[cfg(feature = "checked")]
         ::core::assert!((v as u128) < (1u128 << 62), "`write_varint` requires `v < 2 ^ 62`");
-        self.write_varint_unchecked(v)
-    }
-
-    #[doc(hidden)]
-    #[inline]
-    pub fn write_varint_unchecked(&mut self, v: u64) -> Result<()> {
         // Each width has a call of its own, so that no further branch depends on the width.
         if v < 1 << 6 {
-            self.write_varint_with_len_unchecked(v, 1)
+            self.write_varint_with_len(v, 1)
         } else if v < 1 << 14 {
-            self.write_varint_with_len_unchecked(v, 2)
+            self.write_varint_with_len(v, 2)
         } else if v < 1 << 30 {
-            self.write_varint_with_len_unchecked(v, 4)
+            self.write_varint_with_len(v, 4)
         } else {
-            self.write_varint_with_len_unchecked(v, 8)
+            self.write_varint_with_len(v, 8)
         }
     }
 }

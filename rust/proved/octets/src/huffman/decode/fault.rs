@@ -30,7 +30,7 @@ fn is_byte_at(text: &[u8], at: usize) -> bool {
     let mut state = front_state(text, at);
     let mut steps = Steps::new();
     for half in at.div_ceil(4)..2 * text.len() {
-        match state.step_unchecked(half_byte(text, half), &mut steps) {
+        match state.step(half_byte(text, half), &mut steps) {
             Step::On(next) => state = next,
             Step::Byte(_, _) => return true,
             Step::End => return false,

@@ -2,7 +2,7 @@
 //! The codes at the start of a window of 64 bits.
 use rattle_std::{self as std, prelude::*};
 
-use octets_code::{Coded, code_behind, code_behind_unchecked, look_at, look_at_unchecked};
+use octets_code::{Coded, code_behind, look_at};
 
 /// Decoded bytes: the `count` least significant bytes of `bytes`, least significant byte first.
 /// Their codes have `len` bits together.
@@ -30,7 +30,7 @@ struct Seen {
 /// - `(x : List Bool) × (k : ℕ) × (k ≤ 3) × IsSeen x k seen.rest seen.sums seen.bytes`
 #[inline(always)]
 fn look_on(seen: Seen) -> Seen {
-    let look = look_at_unchecked((seen.rest >> 52) as u16);
+    let look = look_at((seen.rest >> 52) as u16);
     let cut = u64::from(look.cut);
     Seen {
         rest: seen.rest << (cut % 64),
@@ -70,5 +70,5 @@ pub(super) fn look_ahead(window: u64) -> Option<Group> {
 pub(super) fn long_code(window: u64) -> Option<Coded> {
     // The 31st bit counts as a zero, so that the code of EOS has 30 leading ones.
     let ones = (!window | 1 << 33).leading_zeros();
-    code_behind_unchecked(ones, (window >> (58 - ones) & 31) as u8)
+    code_behind(ones, (window >> (58 - ones) & 31) as u8)
 }

@@ -86,7 +86,7 @@ pub(super) fn front_state(text: &[u8], at: usize) -> State {
     }
     let byte = text[at / 8];
     let half = if at % 8 < 4 { byte >> 4 } else { byte & 0xf };
-    State::of_front_unchecked((4 - past) as u8, half & ((1 << (4 - past)) - 1))
+    State::of_front((4 - past) as u8, half & ((1 << (4 - past)) - 1))
 }
 
 /// Reads the lower half of a byte whose higher half was already read, which is the case if the
@@ -194,7 +194,7 @@ fn read_nibble<S: Store>(
     max_len: usize,
     steps: &mut Steps,
 ) -> Option<State> {
-    match state.step_unchecked(nibble, steps) {
+    match state.step(nibble, steps) {
         Step::On(next) => Some(next),
         Step::Byte(next, byte) => {
             if value.count() == max_len {

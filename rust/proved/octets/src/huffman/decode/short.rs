@@ -2,7 +2,7 @@
 //! Finds the codes of a short encoding, which is one window of 64 bits with one bits after its end.
 use rattle_std::{self as std, prelude::*};
 
-use octets_code::{look_at, look_at_unchecked};
+use octets_code::look_at;
 
 /// The codes that lookups found in a window.
 pub(super) struct Found {
@@ -25,7 +25,7 @@ pub(super) fn look_through(window: u64, value: &mut [u8; 32]) -> Found {
     let mut looks: usize = 0;
     // The first two lookups are made even if one is enough: a wrongly predicted branch takes longer.
     'looks: while looks < 8 && (looks < 2 || inverse != 0) {
-        let look = look_at_unchecked((!inverse >> 52) as u16);
+        let look = look_at((!inverse >> 52) as u16);
         if look.cut == 0 {
             return Found {
                 at: sums - 64 * count,

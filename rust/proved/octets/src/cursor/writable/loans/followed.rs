@@ -54,16 +54,10 @@ impl<B: Buffer> Cursor<B> {
     ///
     /// - `len ≤ length (rest self.old)`
     #[inline]
-    #[track_caller]
+    #[cfg_attr(feature = "checked", track_caller)]
     pub fn lend(&mut self, len: usize) -> &mut [u8] {
         #[cfg(feature = "checked")]
         ::core::assert!((len as u128) <= (self.cap() as u128), "`lend` requires `len ≤ length (rest self.old)`");
-        self.lend_unchecked(len)
-    }
-
-    #[doc(hidden)]
-    #[inline]
-    pub fn lend_unchecked(&mut self, len: usize) -> &mut [u8] {
         // The proof needs this call: its clause `small` bounds the sum below.
         let _cap = self.cap();
         let from = self.off;
@@ -86,16 +80,10 @@ impl<B: Buffer> Cursor<B> {
     ///
     /// - `len ≤ length (rest self.old)`
     #[inline]
-    #[track_caller]
+    #[cfg_attr(feature = "checked", track_caller)]
     pub fn lend_ahead(&mut self, len: usize) -> &mut [u8] {
         #[cfg(feature = "checked")]
         ::core::assert!((len as u128) <= (self.cap() as u128), "`lend_ahead` requires `len ≤ length (rest self.old)`");
-        self.lend_ahead_unchecked(len)
-    }
-
-    #[doc(hidden)]
-    #[inline]
-    pub fn lend_ahead_unchecked(&mut self, len: usize) -> &mut [u8] {
         let ahead = self.off;
         self.lend_at(ahead, len)
     }
@@ -117,16 +105,10 @@ impl<B: Buffer> Cursor<B> {
     ///
     /// - `len ≤ length (bytes self.old)`
     #[inline]
-    #[track_caller]
+    #[cfg_attr(feature = "checked", track_caller)]
     pub fn lend_last(&mut self, len: usize) -> &mut [u8] {
         #[cfg(feature = "checked")]
         ::core::assert!((len as u128) <= (self.len() as u128), "`lend_last` requires `len ≤ length (bytes self.old)`");
-        self.lend_last_unchecked(len)
-    }
-
-    #[doc(hidden)]
-    #[inline]
-    pub fn lend_last_unchecked(&mut self, len: usize) -> &mut [u8] {
         let from = self.len() - len;
         self.lend_at(from, len)
     }

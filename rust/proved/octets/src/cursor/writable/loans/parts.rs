@@ -7,7 +7,7 @@ use rattle_std::{self as std, prelude::*};
 
 use crate::cursor::writable::OctetsMut;
 use crate::error::{BufferTooShortError, Result};
-use crate::varint::{varint_len, varint_len_unchecked};
+use crate::varint::varint_len;
 
 /// The range of a buffer from position `from` on that has `len` bytes.
 pub(crate) struct Part {
@@ -95,7 +95,7 @@ impl<'a> OctetsMut<'a> {
     /// - `v < 2 ^ 62`
     #[inline]
     pub(crate) fn part_of_varint(&mut self, v: u64) -> Result<Part> {
-        self.part_of_varint_with_len(v, varint_len_unchecked(v))
+        self.part_of_varint_with_len(v, varint_len(v))
     }
 
     /// Writes the varint of `v` in `len` bytes, moves the offset past it, and returns its range.
@@ -108,7 +108,7 @@ impl<'a> OctetsMut<'a> {
     #[inline]
     pub(crate) fn part_of_varint_with_len(&mut self, v: u64, len: usize) -> Result<Part> {
         let from = self.off;
-        self.write_varint_with_len_unchecked(v, len)?;
+        self.write_varint_with_len(v, len)?;
         Ok(Part { from, len })
     }
 
@@ -121,7 +121,7 @@ impl<'a> OctetsMut<'a> {
     #[inline]
     pub(crate) fn part_of_marked(&mut self, v: u64, len: usize) -> Result<Part> {
         let from = self.off;
-        self.write_marked_unchecked(v, len)?;
+        self.write_marked(v, len)?;
         Ok(Part { from, len })
     }
 }
