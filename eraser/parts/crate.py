@@ -6,9 +6,9 @@ from dataclasses import dataclass
 from pathlib import Path
 
 from .names import Names, names_of
-from .source import EXAMPLE, EXPORT, Refused, Source
+from .source import EXAMPLE, EXPORT, Refused, Source, prelude
 
-KEYS = {"name", "version", "license", "description", "checks", "measures", "usize_of_32_bits", "exports"}
+KEYS = {"name", "version", "license", "description", "checks", "measures", "usize_of_32_bits", "small_std", "exports"}
 TEST_MODULE = re.compile(r"#\[cfg\(test\)\]\s*(?:pub(?:\([^)]*\))?\s+)?mod\s+(\w+)\s*;")
 STD_NAMES = Path(__file__).with_name("std_names.txt")
 
@@ -55,7 +55,7 @@ class Crate:
         self.names.add(dependency_names)
         self.std_names = {name: mark or traits for mark, name, traits in re.findall(r"(\*?)(\w+):?(\S*)", STD_NAMES.read_text())}
         self.names_io = self.names_any("io")
-        self.sources = {}
+        self.sources, self.is_hosted = {}, False
 
     def names_any(self, words):
         """Whether a file of the crate has one of these words, which commas separate."""
@@ -73,8 +73,11 @@ class Crate:
         return settings
 
     def erase(self):
-        """The erased text of each file, by its place in the package."""
-        self.sources = {path: self.erase_file(path) for path in self.paths}
+        """The erased text of each file, by its place in the package. A library whose files turn out to need the host is read again."""
+        for self.is_hosted in (self.is_program, True):
+            self.sources = {path: self.erase_file(path) for path in self.paths}
+            if self.is_hosted == self.needs_host:
+                break
         if errors := [each for source in self.sources.values() for each in source.errors]:
             raise Refused("\n".join(dict.fromkeys(errors)))
         return {path.relative_to(self.folder).with_suffix(".rs").as_posix(): finished(source)
@@ -85,9 +88,10 @@ class Crate:
         source.items("")
         return source
 
-    def macros_of(self, place):
-        """The macros of rattle_std that an erased file calls."""
-        return self.sources[(self.folder / place).with_suffix(".rt")].macros
+    def prelude_of(self, place):
+        """What an erased file brings in."""
+        source = self.sources[(self.folder / place).with_suffix(".rt")]
+        return prelude(source.macros, self.is_hosted or source.path in self.test_paths)
 
     def functions(self):
         """The functions that have conditions, each with its file."""

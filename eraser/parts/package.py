@@ -5,8 +5,6 @@ import json
 import os
 import re
 
-from .source import prelude
-
 LINTS = "#![allow(clippy::all, missing_docs, unstable_name_collisions, unused)]\n"
 NARROW = """\
 #[cfg(not(any(target_pointer_width = "64", feature = "usize_of_32_bits")))]
@@ -25,17 +23,17 @@ def root_attributes(crate):
     return text + ("" if crate.settings.get("usize_of_32_bits") else NARROW)
 
 
-def with_head(crate, place, text, macros):
+def with_head(crate, place, text, prelude):
     """The text of a file with where it is from, the attributes of a root, and the prelude."""
     documentation, rest = re.fullmatch(r"((?://![^\n]*\n)*)\s*(.*)", text, re.S).groups()
     is_root = place in ("src/lib.rs", "src/main.rs")
     inner, rest = re.fullmatch(r"((?:#!\[[^\n]*\]\n)*)\s*(.*)", rest, re.S).groups()
     head = f"// Erased from crates/{crate.name}/{place[:-3]}.rt by tools/erase.\n{documentation}"
-    return f"{head}{inner}{root_attributes(crate) if is_root else ''}{prelude(macros).lstrip()}\n{rest}"
+    return f"{head}{inner}{root_attributes(crate) if is_root else ''}{prelude.lstrip()}\n{rest}"
 
 
 def manifest(crate, places, license_line, kit):
-    """Cargo.toml. `places` has the folder of each dependency, and of rattle_std, as paths from the package."""
+    """Cargo.toml. `places` has the folder of each dependency, and of the hand-written packages, as paths from the package."""
     settings = crate.settings
     description = settings.get("description", f"The source of the Rattle crate `{crate.name}`, its contracts erased")
     lines = ["# Written by tools/erase: not to be edited.", "[package]", f'name = "{crate.package}"',
@@ -74,15 +72,15 @@ def dependencies(crate, places):
         named = f'package = "{package}", ' if package != name else ""
         return f'{name} = {{ {named}{where}, version = "{version}"{more} }}'
 
-    hosted = ', features = ["std"]'
-    lines = ["[dependencies]", line("rattle_std", "rattle_std", hosted if crate.needs_host else "")]
+    features = "" if crate.settings.get("small_std") else ', features = ["full"]'
+    lines = ["[dependencies]", line("rattle_host", "rattle_host") if crate.needs_host else line("rattle_std", "rattle_std", features)]
     if crate.is_program:
         lines.append(line("rattle_c", "rattle_c", ', features = ["main"]'))
     for each in crate.dependencies:
         more = "" if crate.is_program else ", default-features = false"
         lines.append(line(each, places[each, "package"], more))
     if crate.has_tests and not crate.needs_host:
-        lines += ["", "[dev-dependencies]", line("rattle_std", "rattle_std", hosted)]
+        lines += ["", "[dev-dependencies]", line("rattle_host", "rattle_host")]
     return lines
 
 

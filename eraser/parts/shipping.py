@@ -97,13 +97,13 @@ def names_of_package(folder):
 
 def files_of(crate, texts, crates, to, over):
     """All files of a package."""
-    places = {each: (path_to(over.parent / each, to / crate.name), version_of(over.parent / each)) for each in ("rattle_std", "rattle_c")}
+    places = {each: (path_to(over.parent / each, to / crate.name), version_of(over.parent / each)) for each in ("rattle_std", "rattle_host", "rattle_c")}
     for each in crate.dependencies:
         folder = to / each if each in crates else folder_of(each, to, over)
         version = crates[each].settings.get("version", "0.1.0") if each in crates else version_of(folder)
         places[each] = (path_to(folder, to / crate.name), version)
         places[each, "package"] = crates[each].package if each in crates else read_manifest(folder)["package"]["name"]
-    files = {place: package.with_head(crate, place, text, crate.macros_of(place)) for place, text in texts.items()}
+    files = {place: package.with_head(crate, place, text, crate.prelude_of(place)) for place, text in texts.items()}
     files["Cargo.toml"] = package.manifest(crate, places, license_of(crate, to), kit())
     if not is_left_alone(to):
         files["rustfmt.toml"] = "# The eraser alone writes the sources.\ndisable_all_formatting = true\n"

@@ -500,7 +500,7 @@ class Source:
         self.take()
         place, macros, self.macros = len(self.out), self.macros, set()
         self.items("}")
-        self.out.insert(place, prelude(self.macros, "    "))
+        self.out.insert(place, prelude(self.macros, self.in_tests or self.crate.is_hosted, "    "))
         self.in_tests, self.macros = was, macros
         return self.take()
 
@@ -696,9 +696,10 @@ class Source:
         self.out[start:] = [head + rest + self.forward(record, LEADING.fullmatch(header)[3], pad)]
 
 
-def prelude(macros, indent=""):
-    """What each module brings in of rattle_std."""
-    return f"\n{indent}use rattle_std::{{{', '.join(['self as std', 'prelude::*', *sorted(macros)])}}};\n"
+def prelude(macros, is_hosted, indent=""):
+    """What each module brings in: of rattle_std, or of rattle_host, which programs and tests have in its place."""
+    place = "rattle_host" if is_hosted else "rattle_std"
+    return f"\n{indent}use {place}::{{{', '.join(['self as std', 'prelude::*', *sorted(macros)])}}};\n"
 
 
 def result_of(header):

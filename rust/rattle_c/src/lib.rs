@@ -10,7 +10,7 @@
 mod program;
 #[cfg(feature = "main")]
 #[doc(hidden)]
-pub use rattle_std;
+pub use rattle_host;
 
 use core::slice::{from_raw_parts, from_raw_parts_mut};
 

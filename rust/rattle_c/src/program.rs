@@ -1,7 +1,7 @@
 //! The `main` function of a program, which C's start-up code calls.
 
 /// Defines the `main` function of a program: `main!(start)` calls the function `start` with the runtime, and ends
-/// the program with the status that the result of `start` [reports](rattle_std::process::Termination).
+/// the program with the status that the result of `start` [reports](rattle_host::process::Termination).
 ///
 /// On Linux with glibc the program doesn't run Rust's start-up code, which opens `/dev/null` in place of a standard
 /// stream that is closed. So a read from, or a write to, a closed stream fails, as it does in Rattle's programs.
@@ -11,11 +11,11 @@
 ///
 /// ```
 /// #![cfg_attr(all(not(test), target_os = "linux", target_env = "gnu"), no_main)]
-/// use rattle_std::prelude::*;
-/// use rattle_std::process::ExitCode;
+/// use rattle_host::prelude::*;
+/// use rattle_host::process::ExitCode;
 ///
 /// fn start(rt: HostRuntime) -> ExitCode {
-///     let status = rattle_std::env::args(&rt).ok().and_then(|mut words| words.nth(1));
+///     let status = rattle_host::env::args(&rt).ok().and_then(|mut words| words.nth(1));
 ///     # if status.is_none() {
 ///     #     return each_status();
 ///     # }
@@ -77,13 +77,13 @@ macro_rules! main {
             #[unsafe(no_mangle)]
             pub extern "C" fn main() -> i32 {
                 signal(SIGPIPE, SIG_IGN);
-                $crate::rattle_std::rt::status_of(super::$main) as i32
+                $crate::rattle_host::rt::status_of(super::$main) as i32
             }
         }
 
         #[cfg(not(all(not(test), target_os = "linux", target_env = "gnu")))]
-        fn main() -> $crate::rattle_std::rust_std::process::ExitCode {
-            $crate::rattle_std::rt::status_of($main).into()
+        fn main() -> $crate::rattle_host::rust_std::process::ExitCode {
+            $crate::rattle_host::rt::status_of($main).into()
         }
     };
 }

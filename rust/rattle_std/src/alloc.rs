@@ -59,11 +59,3 @@ impl<T> From<AllocFailed<T>> for AllocError {
         AllocError
     }
 }
-
-/// Makes a formatting error. `write!` to a [`String`](crate::string::String) of this crate fails with an `AllocError`,
-/// and with this conversion `?` returns it from a function whose result is a `fmt::Result`.
-impl From<AllocError> for fmt::Error {
-    fn from(_: AllocError) -> Self {
-        fmt::Error
-    }
-}

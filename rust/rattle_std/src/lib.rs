@@ -1,31 +1,29 @@
-//! The parts of Rattle's std that Rust's std lacks or has in another form, written over Rust's std. The Rust packages
-//! that are made from verified Rattle source depend on this crate.
+//! The parts of Rattle's std that Rust's std lacks or has in another form, written over Rust's std. The Rust libraries
+//! that are made from verified Rattle source depend on this crate; programs, and tests, depend on `rattle_host`, which has
+//! more.
 //!
-//! Rattle is a dialect of Rust with contracts. Its std has the same names as Rust's, with two differences:
-//!
-//! - A call that allocates takes the allocator, or a collection that was made with it, and returns an error if the
-//!   allocation fails. In Rust's std such a call ends the program.
-//! - A call that prints, reads or stops the program takes the *runtime*, or is a method of it. The runtime is a value
-//!   that `main` and each test get as an argument. In Rust's std such calls take no runtime.
+//! Rattle is a dialect of Rust with contracts. Its std has the same names as Rust's, with one difference here: a call that
+//! allocates takes the allocator, or a collection that was made with it, and returns an error if the allocation fails. In
+//! Rust's std such a call ends the program.
 //!
 //! ```
 //! use rattle_std::alloc::{AllocError, Global};
-//! use rattle_std::{format, prelude::*, vec};
+//! use rattle_std::prelude::*;
 //!
-//! fn squares(alloc: Global, count: u32) -> Result<String, AllocError> {
-//!     let mut all = vec![in alloc; 0]?;
+//! fn squares(alloc: Global, count: u32) -> Result<Vec<u32>, AllocError> {
+//!     let mut all = Vec::with_capacity(alloc, 3)?;
 //!     for n in 1..count {
 //!         all.push(n * n)?;
 //!     }
-//!     format!(in alloc; "{all:?}")
+//!     Ok(all)
 //! }
 //!
-//! assert_eq!(squares(Global, 4)?.as_str(), "[0, 1, 4, 9]");
+//! assert_eq!(*squares(Global, 4)?, [1, 4, 9]);
 //! # Ok::<(), AllocError>(())
 //! ```
 //!
 //! `tools/erase` removes the contracts from the source of a proved crate. In each file that it writes, this line gives
-//! this crate the name `std`; it also names the macros of this crate that the file calls:
+//! this crate the name `std`:
 //!
 //! ```
 //! use rattle_std::{self as std, prelude::*};
@@ -33,11 +31,10 @@
 //!
 //! Everything that has the same form in both languages is re-exported from Rust's std.
 //!
-//! This crate isn't verified, and has no `unsafe` code. It needs `alloc`, but not `std`. The feature
-//! `std` adds what programs and tests use: the modules `env`, `io`, `process`, `rt` and `test`, and the macros that
-//! take the runtime. Some calls of these modules also allocate by Rust's std, and end the program if such an allocation
-//! fails: standard input and output when they are first used, readers of the runtime, which have a buffer, `env::args`,
-//! and `Fail::new`.
+//! This crate isn't verified, and has no `unsafe` code. It needs `alloc`, but not `std`. Without features it has only what
+//! the crate `octets` needs. The feature `full` adds strings, the macros `format!`, `vec!` and `prove!`, `rattle_collect` and
+//! other methods of iterators, and the other methods of vectors. The feature `std` makes a vector a writer of Rust's std,
+//! and a failed allocation an error of it.
 #![no_std]
 #![forbid(unsafe_code)]
 
@@ -49,27 +46,24 @@ compile_error!(
 
 extern crate alloc as rust_alloc;
 #[cfg(feature = "std")]
-#[doc(hidden)]
-pub extern crate std as rust_std;
+extern crate std as rust_std;
 
 pub mod alloc;
+#[cfg(feature = "full")]
 mod iter_in;
+#[cfg(feature = "full")]
 mod macros;
 mod slices;
+#[cfg(feature = "full")]
 pub mod string;
+#[cfg(feature = "full")]
+mod text;
 pub mod vec;
+#[cfg(feature = "std")]
+#[doc(hidden)]
+pub mod writes;
+#[cfg(feature = "full")]
 mod zip;
-
-#[cfg(feature = "std")]
-pub mod env;
-#[cfg(feature = "std")]
-pub mod io;
-#[cfg(feature = "std")]
-pub mod process;
-#[cfg(feature = "std")]
-pub mod rt;
-#[cfg(feature = "std")]
-pub mod test;
 
 pub use core::{cmp, convert, error, fmt, marker, net, ops, result, slice, str};
 
@@ -81,22 +75,30 @@ pub mod mem {
 
 /// Rust's iterators, with a [`Zip`](crate::iter::Zip) that calls the methods `next` of its iterators in the same order
 /// as Rattle's.
+#[cfg(feature = "full")]
 pub mod iter {
     pub use crate::zip::Zip;
     pub use core::iter::*;
 }
 
-/// The traits and types that each erased file imports.
+/// The traits whose methods erased code calls.
+pub mod traits {
+    #[cfg(feature = "full")]
+    pub use crate::{
+        iter_in::IteratorIn,
+        text::{RepeatIn, StrIn, ToStringIn},
+        zip::{ZipIteratorInTurn, ZipOptionInTurn},
+    };
+    pub use crate::slices::{AsChunks, SliceIn};
+}
+
+/// What each erased file imports: types, and the [traits](crate::traits), whose names stay free for a trait of the file.
 pub mod prelude {
-    pub use crate::iter_in::IteratorIn;
-    #[cfg(feature = "std")]
-    pub use crate::process::ExpectOrStop;
-    #[cfg(feature = "std")]
-    pub use crate::io::{BufReadIn, ReadIn};
-    #[cfg(feature = "std")]
-    pub use crate::rt::{AllocGlobal, Eprint, HostRuntime, Input, Print};
-    pub use crate::slices::{AsChunks, SliceIn, StrIn, ToStringIn};
-    pub use crate::string::String;
+    pub use crate::traits::{AsChunks as _, SliceIn as _};
     pub use crate::vec::Vec;
-    pub use crate::zip::{ZipIteratorInTurn, ZipOptionInTurn};
+    #[cfg(feature = "full")]
+    pub use crate::{
+        string::String,
+        traits::{IteratorIn as _, RepeatIn as _, StrIn as _, ToStringIn as _, ZipIteratorInTurn as _, ZipOptionInTurn as _},
+    };
 }

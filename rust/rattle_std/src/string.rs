@@ -183,3 +183,11 @@ impl From<String> for string::String {
         text.0
     }
 }
+
+/// Makes a formatting error. `write!` to a [`String`] of this crate fails with an `AllocError`,
+/// and with this conversion `?` returns it from a function whose result is a `fmt::Result`.
+impl From<AllocError> for fmt::Error {
+    fn from(_: AllocError) -> Self {
+        fmt::Error
+    }
+}

@@ -1,23 +1,13 @@
 //! Tests of the streams over a file that notes each call. The crate's source of the streams is a module of this program,
 //! and this program has the place of Rust's std there. So a stream opens the file below.
 #![cfg(unix)]
-extern crate alloc as rust_alloc;
 extern crate self as rust_std;
 
 pub use std::{io, os};
 
 #[allow(dead_code)]
-#[path = "../src/alloc.rs"]
-mod alloc;
-#[allow(dead_code)]
 #[path = "../src/io.rs"]
 mod streams;
-#[allow(dead_code)]
-#[path = "../src/string.rs"]
-mod string;
-#[allow(dead_code)]
-#[path = "../src/vec.rs"]
-mod vec;
 
 use fs::{calls, failing, refusing};
 use std::io::{ErrorKind, Read, Write};

@@ -1,8 +1,9 @@
 //! The traits and lifetimes that the calls require of a caller's type, and no others. Most of these tests only have to
 //! compile.
-use rattle_std::alloc::{AllocError, AllocFailed, Global};
-use rattle_std::prelude::*;
-use rattle_std::{format, vec};
+use rattle_host::alloc::{AllocError, AllocFailed, Global};
+use rattle_host::prelude::*;
+use rattle_host::traits::*;
+use rattle_host::{format, vec};
 use std::cell::Cell;
 use std::fmt;
 use std::marker::PhantomPinned;
@@ -98,8 +99,8 @@ fn a_slice_is_copied_if_its_values_are_copy() {
     let copies = [
         all,
         SliceIn::rattle_to_vec(&values[..], Global).unwrap(),
-        SliceIn::rattle_to_owned(&values[..], Global).unwrap(),
-        SliceIn::rattle_repeat(&values[..], Global, 3).unwrap(),
+        RepeatIn::rattle_to_owned(&values[..], Global).unwrap(),
+        RepeatIn::rattle_repeat(&values[..], Global, 3).unwrap(),
     ];
     assert_eq!(copies.map(|copy| copy.iter().map(|value| value.0.get()).sum::<u8>()), [28, 14, 14, 42]);
 }
@@ -190,13 +191,12 @@ fn any_values_are_chunks() {
     assert_eq!((chunks.count(), rest.len()), (1, 1));
 }
 
-#[cfg(feature = "std")]
 mod hosted {
     use super::*;
-    use rattle_std::io::{self, BufRead, Read, Write};
-    use rattle_std::process::{Abort, ExitCode, Termination};
-    use rattle_std::rt::Env;
-    use rattle_std::test::{Fail, Outcome};
+    use rattle_host::io::{self, BufRead, Read, Write};
+    use rattle_host::process::{Abort, ExitCode, Termination};
+    use rattle_host::rt::Env;
+    use rattle_host::test::{Fail, Outcome};
 
     /// A runtime that can stop the program and read its arguments, and a reader. It implements no other trait.
     struct Own<'a>(#[expect(dead_code, reason = "it has no other use")] Plain<'a>, &'a [u8]);
@@ -230,7 +230,7 @@ mod hosted {
         assert_eq!(own().rattle_read_to_end(&mut bytes).unwrap(), 7);
         assert_eq!(own().rattle_read_to_string(&mut text).unwrap(), 7);
         assert_eq!(own().rattle_read_line(&mut line).unwrap(), 2);
-        assert_eq!(rattle_std::env::args(&own()).unwrap().count(), std::env::args().count());
+        assert_eq!(rattle_host::env::args(&own()).unwrap().count(), std::env::args().count());
     }
 
     /// A value that prints nothing.
@@ -244,7 +244,7 @@ mod hosted {
 
     #[test]
     fn any_value_is_printed() {
-        rattle_std::test::run(|rt| {
+        rattle_host::test::run(|rt| {
             let number = Cell::new(7);
             let silent = || Silent(Plain::new(&number));
             rt.print(silent())?;

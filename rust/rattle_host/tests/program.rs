@@ -3,22 +3,22 @@
 #[path = "../../tests/memory/refusing.rs"]
 mod refusing;
 
-use rattle_std::alloc::Global;
-use rattle_std::io::{self, Read, Write};
-use rattle_std::process::{Abort, ExitCode, Termination};
-use rattle_std::rt::{Env, HostRuntime};
-use rattle_std::test::{Fail, Outcome};
-use rattle_std::{eprint, eprintln, prelude::*, print, println};
+use rattle_host::alloc::Global;
+use rattle_host::io::{self, Read, Write};
+use rattle_host::process::{Abort, ExitCode, Termination};
+use rattle_host::rt::{Env, HostRuntime};
+use rattle_host::test::{Fail, Outcome};
+use rattle_host::{eprint, eprintln, prelude::*, print, println};
 use std::panic::{AssertUnwindSafe, catch_unwind};
 use std::process::{Command, Output, Stdio};
 
 fn main() -> std::process::ExitCode {
-    rattle_std::rt::status_of(start).into()
+    rattle_host::rt::status_of(start).into()
 }
 
 /// Runs the case that the first argument names. Without an argument it runs all tests.
 fn start(rt: HostRuntime) -> ExitCode {
-    let mut arguments = match rattle_std::env::args(&rt) {
+    let mut arguments = match rattle_host::env::args(&rt) {
         Ok(arguments) => arguments,
         Err(why) => return ExitCode::from(if why.kind() == io::ErrorKind::InvalidData { 9 } else { 10 }),
     };
@@ -46,7 +46,7 @@ fn start(rt: HostRuntime) -> ExitCode {
         Some("full") => ExitCode::from(full(rt)),
         Some("long texts") => status(long_texts(rt)),
         Some("flush") => {
-            rattle_std::rt::status_of(|_| std::print!("x"));
+            rattle_host::rt::status_of(|_| std::print!("x"));
             std::process::abort()
         }
         Some("little memory") => {
@@ -267,7 +267,7 @@ fn long_texts(rt: HostRuntime) -> io::Result<()> {
 /// Returns the number of arguments if the allocation after `count` others fails, or 100 if `args` then fails with
 /// `OutOfMemory`, or 101 if it fails with another error. If an allocation of Rust's own calls fails, the program ends.
 fn little_memory(rt: HostRuntime, count: usize) -> u8 {
-    match refusing::failing_after(count, || rattle_std::env::args(&rt)).0 {
+    match refusing::failing_after(count, || rattle_host::env::args(&rt)).0 {
         Ok(all) => all.count() as u8,
         Err(why) if why.kind() == io::ErrorKind::OutOfMemory => 100,
         Err(_) => 101,
@@ -507,12 +507,12 @@ macro_rules! each_macro {
         eprint!($rt; "{}", 3).unwrap();
         eprintln!($rt).unwrap();
         eprintln!($rt; "{}", 4).unwrap();
-        rattle_std::assert!($rt; true);
-        rattle_std::assert_eq!($rt; 1, 1);
-        rattle_std::assert_ne!($rt; 1, 2);
-        assert!(panics(|| rattle_std::panic!($rt; "x")).is_some());
-        assert!(panics(|| rattle_std::todo!($rt; "x")).is_some());
-        assert!(panics(|| rattle_std::unimplemented!($rt; "x")).is_some());
+        rattle_host::assert!($rt; true);
+        rattle_host::assert_eq!($rt; 1, 1);
+        rattle_host::assert_ne!($rt; 1, 2);
+        assert!(panics(|| rattle_host::panic!($rt; "x")).is_some());
+        assert!(panics(|| rattle_host::todo!($rt; "x")).is_some());
+        assert!(panics(|| rattle_host::unimplemented!($rt; "x")).is_some());
     };
 }
 
@@ -544,19 +544,19 @@ fn runtimes() {
 }
 
 fn assertions(rt: HostRuntime) {
-    rattle_std::assert!(rt; true);
-    rattle_std::assert_eq!(rt; 1, 1, "message");
-    rattle_std::assert_ne!(rt; 1, 2);
+    rattle_host::assert!(rt; true);
+    rattle_host::assert_eq!(rt; 1, 1, "message");
+    rattle_host::assert_ne!(rt; 1, 2);
     let said = |call: &dyn Fn()| panics(call).unwrap_or_default();
-    assert_eq!(said(&|| rattle_std::assert!(rt; 1 > 2, "no {}", 1)), "no 1");
-    assert!(said(&|| rattle_std::assert_eq!(rt; 1, 2)).contains("left == right"));
-    assert!(said(&|| rattle_std::assert_ne!(rt; 2, 2)).contains("left != right"));
-    assert_eq!(said(&|| rattle_std::panic!(rt; "why {}", 2)), "why 2");
-    assert_eq!(said(&|| rattle_std::panic!(rt)), "explicit panic");
-    assert_eq!(said(&|| rattle_std::todo!(rt)), "not yet implemented");
-    assert_eq!(said(&|| rattle_std::unimplemented!(rt; "x")), "not implemented: x");
-    assert_eq!(said(&|| rattle_std::todo!(rt; "x{}", 1)), "not yet implemented: x1");
-    assert_eq!(said(&|| rattle_std::unimplemented!(rt)), "not implemented");
+    assert_eq!(said(&|| rattle_host::assert!(rt; 1 > 2, "no {}", 1)), "no 1");
+    assert!(said(&|| rattle_host::assert_eq!(rt; 1, 2)).contains("left == right"));
+    assert!(said(&|| rattle_host::assert_ne!(rt; 2, 2)).contains("left != right"));
+    assert_eq!(said(&|| rattle_host::panic!(rt; "why {}", 2)), "why 2");
+    assert_eq!(said(&|| rattle_host::panic!(rt)), "explicit panic");
+    assert_eq!(said(&|| rattle_host::todo!(rt)), "not yet implemented");
+    assert_eq!(said(&|| rattle_host::unimplemented!(rt; "x")), "not implemented: x");
+    assert_eq!(said(&|| rattle_host::todo!(rt; "x{}", 1)), "not yet implemented: x1");
+    assert_eq!(said(&|| rattle_host::unimplemented!(rt)), "not implemented");
 }
 
 fn expectations(rt: HostRuntime) {
@@ -589,8 +589,8 @@ fn outcomes() {
     assert_eq!(panics(|| Err::<(), Fail>(Fail::from(Some(3))).judge()).unwrap(), "error: Some(3)");
     let name = std::string::String::from("a");
     assert_eq!(panics(|| Err::<(), &str>(&name).judge()).unwrap(), "error: \"a\"");
-    rattle_std::test::run(|_| ());
-    assert_eq!(panics(|| rattle_std::test::run(|_| Err::<(), _>(4))).unwrap(), "error: 4");
+    rattle_host::test::run(|_| ());
+    assert_eq!(panics(|| rattle_host::test::run(|_| Err::<(), _>(4))).unwrap(), "error: 4");
 }
 
 /// If the allocation fails, an index that is too large is no panic.

@@ -1,9 +1,10 @@
 //! Input and output: everything of Rust's `std::io`, but with other standard streams, which have no buffer and return
 //! an error if their descriptor is closed, and with traits that read into the collections of this crate.
-use crate::alloc::{AllocError, AllocFailed, Global};
-use crate::string::String;
-use crate::vec::Vec;
+use rattle_std::alloc::Global;
+use rattle_std::string::String;
+use rattle_std::vec::Vec;
 use core::{fmt, str};
+use rattle_std::writes::format_to;
 use rust_std::io;
 
 pub use rust_std::io::*;
@@ -146,27 +147,6 @@ impl io::Write for Stderr {
     }
 }
 
-/// Passes the pieces of a formatted text on to a writer, and keeps the error of a write that failed.
-struct Pieces<'a, W>(&'a mut W, io::Result<()>);
-
-impl<W: io::Write> fmt::Write for Pieces<'_, W> {
-    fn write_str(&mut self, text: &str) -> fmt::Result {
-        self.0.write_all(text.as_bytes()).map_err(|why| {
-            self.1 = Err(why);
-            fmt::Error
-        })
-    }
-}
-
-/// Formats `text`, and writes it to `out`. If a `Display` returns an error, it fails with an error of the kind `Other`,
-/// where the `write_fmt` of Rust's std panics.
-fn format_to(out: &mut impl io::Write, text: fmt::Arguments<'_>) -> io::Result<()> {
-    let mut pieces = Pieces(out, Ok(()));
-    let formatted = fmt::Write::write_fmt(&mut pieces, text);
-    pieces.1?;
-    formatted.map_err(|_| io::Error::from(io::ErrorKind::Other))
-}
-
 /// A buffer of 1024 bytes before a writer. It allocates nothing, so a program can print when memory is exhausted.
 struct Buffered<W> {
     out: W,
@@ -198,37 +178,6 @@ pub(crate) fn written(out: impl io::Write, text: fmt::Arguments<'_>) -> io::Resu
     let formatted = format_to(&mut buffered, text);
     io::Write::flush(&mut buffered)?;
     formatted
-}
-
-/// A write appends all bytes to the end of the vector. If the allocation fails, it fails with `OutOfMemory`, and the
-/// vector is unchanged. In Rust's std a write to a vector never returns an error.
-impl io::Write for Vec<u8> {
-    fn write(&mut self, bytes: &[u8]) -> io::Result<usize> {
-        self.extend_from_slice(bytes)?;
-        Ok(bytes.len())
-    }
-
-    fn flush(&mut self) -> io::Result<()> {
-        Ok(())
-    }
-
-    fn write_fmt(&mut self, text: fmt::Arguments<'_>) -> io::Result<()> {
-        format_to(self, text)
-    }
-}
-
-/// Converts the error, so that `?` works in a function that returns an `io::Result`. The kind is `OutOfMemory`.
-impl From<AllocError> for io::Error {
-    fn from(_: AllocError) -> Self {
-        io::Error::from(io::ErrorKind::OutOfMemory)
-    }
-}
-
-/// Converts the error, and drops the value in it. The kind is `OutOfMemory`.
-impl<T> From<AllocFailed<T>> for io::Error {
-    fn from(_: AllocFailed<T>) -> Self {
-        io::Error::from(io::ErrorKind::OutOfMemory)
-    }
 }
 
 /// The methods that Rattle names `read_to_end` and `read_to_string`. They have other names here, since Rust's methods

@@ -1,6 +1,6 @@
 //! The runtime: a value that `main` and each test get as an argument, and with which they allocate, print and read. In
 //! Rust's std such calls take no runtime.
-use crate::alloc::Global;
+use rattle_std::alloc::Global;
 use crate::io::{self, Write};
 use crate::process::Termination;
 use core::fmt::Display;

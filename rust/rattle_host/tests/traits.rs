@@ -1,7 +1,7 @@
 //! The traits that the crate's types implement, and those that they don't. Most of these tests only have to compile.
-use rattle_std::alloc::{AllocError, AllocFailed, Global};
-use rattle_std::iter::Zip;
-use rattle_std::prelude::*;
+use rattle_host::alloc::{AllocError, AllocFailed, Global};
+use rattle_host::iter::Zip;
+use rattle_host::prelude::*;
 use std::borrow::Borrow;
 use std::error::Error;
 use std::fmt::{Debug, Display};
@@ -103,7 +103,7 @@ fn an_error_is_made_by_a_failure_alone() {
     have!(Debug, Clone, Copy; Global);
     have!(Debug, Display, Error, Clone, Copy, Eq, Send, Sync, Unpin; AllocError);
     have!(Debug, Display, Error; AllocFailed<Nothing>);
-    have!(Debug, Eq; rattle_std::string::FromUtf8Error);
+    have!(Debug, Eq; rattle_host::string::FromUtf8Error);
     lack!(Default; Global, AllocError, AllocFailed<u8>);
     lack!(From<()>; Global, AllocError);
     lack!(From<std::fmt::Error>; AllocError);
@@ -112,7 +112,7 @@ fn an_error_is_made_by_a_failure_alone() {
     lack!(PartialEq; Global, AllocFailed<u8>);
     lack!(Display; Global);
     lack!(Error; Global);
-    lack!(Clone; AllocFailed<u8>, rattle_std::string::FromUtf8Error);
+    lack!(Clone; AllocFailed<u8>, rattle_host::string::FromUtf8Error);
     lack!(Deref; AllocFailed<u8>, AllocError);
 }
 
@@ -132,13 +132,12 @@ fn no_zip_has_a_trait_that_it_does_not_keep() {
     lack!(FusedIterator; Zip<Range, Unfused>, Zip<Unfused, Range>);
 }
 
-#[cfg(feature = "std")]
 mod hosted {
     use super::*;
-    use rattle_std::io::{BufReader, Lines, Read, Stderr, Stdin, Stdout, Write};
-    use rattle_std::process::{Abort, ExitCode, Termination};
-    use rattle_std::rt::Env;
-    use rattle_std::test::{Fail, Outcome};
+    use rattle_host::io::{BufReader, Lines, Read, Stderr, Stdin, Stdout, Write};
+    use rattle_host::process::{Abort, ExitCode, Termination};
+    use rattle_host::rt::Env;
+    use rattle_host::test::{Fail, Outcome};
 
     /// Only the runtime gives what a program has from outside of it, and it isn't made of nothing.
     #[test]

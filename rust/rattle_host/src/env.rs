@@ -1,8 +1,8 @@
 //! The arguments of the program.
 use crate::io;
 use crate::rt::Env;
-use crate::string::String;
-use crate::vec::{IntoIter, Vec};
+use rattle_std::string::String;
+use rattle_std::vec::{IntoIter, Vec};
 use rust_std::env;
 
 /// An iterator over the arguments of the program. The first argument is usually the program's name.
@@ -18,7 +18,7 @@ pub type Args = IntoIter<String>;
 /// of arguments fails. Rust's `args_os` copies each argument before; if an allocation of that call fails, the program
 /// ends.
 pub fn args<R: Env>(_: &R) -> io::Result<Args> {
-    let mut all = Vec::new(crate::alloc::Global);
+    let mut all = Vec::new(rattle_std::alloc::Global);
     for argument in env::args_os() {
         let Ok(text) = argument.into_string() else {
             return Err(io::Error::from(io::ErrorKind::InvalidData));

@@ -3,42 +3,43 @@
 /// Each of these names is there, or this module doesn't compile.
 #[allow(unused_imports)]
 mod taken {
-    use rattle_std::cmp::{Eq, Ord, Ordering, PartialEq, PartialOrd, Reverse, max, max_by, min, min_by};
-    use rattle_std::convert::{AsMut, AsRef, From, Infallible, Into, TryFrom, TryInto, identity};
-    use rattle_std::error::Error;
-    use rattle_std::fmt::{Arguments, Debug, Display, Formatter, LowerHex, UpperHex, Write};
-    use rattle_std::iter::{
+    use rattle_host::cmp::{Eq, Ord, Ordering, PartialEq, PartialOrd, Reverse, max, max_by, min, min_by};
+    use rattle_host::convert::{AsMut, AsRef, From, Infallible, Into, TryFrom, TryInto, identity};
+    use rattle_host::error::Error;
+    use rattle_host::fmt::{Arguments, Debug, Display, Formatter, LowerHex, UpperHex, Write};
+    use rattle_host::iter::{
         Chain, Cloned, Copied, Cycle, DoubleEndedIterator, Empty, Enumerate, ExactSizeIterator, Extend, Filter,
         FilterMap, FlatMap, Flatten, FromFn, FromIterator, Fuse, FusedIterator, Inspect, IntoIterator, Iterator, Map,
         MapWhile, Once, OnceWith, Peekable, Product, Repeat, RepeatN, RepeatWith, Rev, Scan, Skip, SkipWhile, StepBy,
         Successors, Sum, Take, TakeWhile, Zip, empty, from_fn, once, once_with, repeat, repeat_n, repeat_with,
         successors, zip,
     };
-    use rattle_std::marker::{Copy, PhantomData, PhantomPinned, Send, Sized, Sync, Unpin};
-    use rattle_std::mem::{replace, swap, take};
-    use rattle_std::net::{IpAddr, Ipv4Addr, Ipv6Addr, SocketAddr, SocketAddrV4, SocketAddrV6};
-    use rattle_std::ops::{
+    use rattle_host::marker::{Copy, PhantomData, PhantomPinned, Send, Sized, Sync, Unpin};
+    use rattle_host::mem::{replace, swap, take};
+    use rattle_host::net::{IpAddr, Ipv4Addr, Ipv6Addr, SocketAddr, SocketAddrV4, SocketAddrV6};
+    use rattle_host::ops::{
         Add, AddAssign, Bound, ControlFlow, Deref, DerefMut, Drop, Fn, FnMut, FnOnce, Index, IndexMut, Not, Range,
         RangeBounds, RangeFrom, RangeFull, RangeInclusive, RangeTo, RangeToInclusive,
     };
-    use rattle_std::prelude::{
-        AsChunks, IteratorIn, SliceIn, StrIn, String, ToStringIn, Vec, ZipIteratorInTurn, ZipOptionInTurn,
+    use rattle_host::prelude::{String, Vec};
+    use rattle_host::result::Result;
+    use rattle_host::slice::{Chunks, ChunksExact, Iter, IterMut, Windows, from_mut, from_ref};
+    use rattle_host::str::{Chars, FromStr, Split, Utf8Error, from_utf8};
+    use rattle_host::traits::{
+        AsChunks, IteratorIn, RepeatIn, SliceIn, StrIn, ToStringIn, ZipIteratorInTurn, ZipOptionInTurn,
     };
-    use rattle_std::result::Result;
-    use rattle_std::slice::{Chunks, ChunksExact, Iter, IterMut, Windows, from_mut, from_ref};
-    use rattle_std::str::{Chars, FromStr, Split, Utf8Error, from_utf8};
 
-    #[cfg(feature = "std")]
     mod hosted {
-        use rattle_std::env::{Args, args};
-        use rattle_std::io::{
+        use rattle_host::env::{Args, args};
+        use rattle_host::io::{
             BufRead, BufReader, BufWriter, Cursor, Empty, Error, ErrorKind, Lines, Read, Result, Seek, SeekFrom, Sink,
             Stderr, Stdin, Stdout, Write, copy, empty, sink,
         };
-        use rattle_std::prelude::{AllocGlobal, BufReadIn, Eprint, ExpectOrStop, HostRuntime, Input, Print, ReadIn};
-        use rattle_std::process::{Abort, ExitCode, Termination};
-        use rattle_std::rt::Env;
-        use rattle_std::test::{Fail, Outcome, run};
+        use rattle_host::prelude::{AllocGlobal, Eprint, HostRuntime, Input, Print};
+        use rattle_host::process::{Abort, ExitCode, Termination};
+        use rattle_host::rt::Env;
+        use rattle_host::test::{Fail, Outcome, run};
+        use rattle_host::traits::{BufReadIn, ExpectOrStop, ReadIn};
     }
 }
 
@@ -66,24 +67,25 @@ macro_rules! not_taken {
 
 // Rattle's module lacks these, or defines them differently.
 not_taken! {
-    within_mem rattle_std::mem;
+    within_mem rattle_host::mem;
     Discriminant ManuallyDrop MaybeUninit align_of align_of_val discriminant drop forget needs_drop size_of size_of_val
     transmute transmute_copy uninitialized zeroed
 }
 
 not_taken! {
-    within_crate rattle_std;
+    within_crate rattle_host;
     Args ExitCode Fail Global HostRuntime String Vec any array borrow boxed cell char chunks clone collections default
     device fs future hash hint hosted iter_in num option path pin ptr rc rust_alloc slices sync task thread time zip
 }
 
 not_taken! {
-    within_prelude rattle_std::prelude;
-    AllocError AllocFailed Args Collection Fail Global IntoIter Lines Zip alloc fmt io iter mem rt string vec zip
+    within_prelude rattle_host::prelude;
+    AllocError AllocFailed Args AsChunks BufReadIn Collection ExpectOrStop Fail Global IntoIter IteratorIn Lines ReadIn
+    RepeatIn SliceIn StrIn ToStringIn Zip ZipIteratorInTurn ZipOptionInTurn alloc fmt io iter mem rt string vec zip
 }
 
 not_taken! {
-    within_iter rattle_std::iter;
+    within_iter rattle_host::iter;
     Collection IteratorIn ZipIteratorInTurn ZipOptionInTurn skip_back
 }
 
@@ -91,7 +93,9 @@ not_taken! {
 #[test]
 fn no_other_field_is_public() {
     let mut fields = Vec::new();
-    for file in std::fs::read_dir(concat!(env!("CARGO_MANIFEST_DIR"), "/src")).unwrap() {
+    let folders = ["src", "../rattle_std/src", "../rattle_std/src/vec"].map(|folder| format!("{}/{folder}", env!("CARGO_MANIFEST_DIR")));
+    let files = folders.iter().flat_map(|folder| std::fs::read_dir(folder).unwrap());
+    for file in files.filter(|file| file.as_ref().is_ok_and(|file| file.path().is_file())) {
         let code = std::fs::read_to_string(file.unwrap().path()).unwrap();
         for line in code.lines().map(str::trim_start) {
             let word = line.strip_prefix("pub ").and_then(|rest| rest.split(' ').next());

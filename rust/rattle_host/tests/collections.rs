@@ -3,8 +3,9 @@
 #[path = "../../tests/memory/refusing.rs"]
 mod refusing;
 
-use rattle_std::alloc::{AllocError, AllocFailed, Global};
-use rattle_std::{self as std_of_rattle, format, prelude::*, vec};
+use rattle_host::alloc::{AllocError, AllocFailed, Global};
+use rattle_host::{self as std_of_rattle, format, prelude::*, vec};
+use rattle_host::traits::*;
 use refusing::failing_after;
 
 /// Half of the numbers of bytes that a `usize` can count: one more than an allocation can have.
@@ -234,10 +235,9 @@ fn what_is_not_stored_is_dropped() {
     let why = failing_after(0, || all.push(Rc::clone(&value))).0.unwrap_err();
     assert_eq!((Rc::strong_count(&value), Rc::ptr_eq(&why.value, &value)), (3, true));
     assert_eq!((AllocError::from(why), Rc::strong_count(&value)), (AllocError, 2));
-    #[cfg(feature = "std")]
     {
         let why = AllocFailed { value: Rc::clone(&value) };
-        assert_eq!((rattle_std::io::Error::from(why).raw_os_error(), Rc::strong_count(&value)), (None, 2));
+        assert_eq!((rattle_host::io::Error::from(why).raw_os_error(), Rc::strong_count(&value)), (None, 2));
     }
     drop(all);
     // The first allocation holds four values, and the second, for the fifth, fails.
@@ -328,7 +328,7 @@ fn long_vectors_do_what_those_of_rust_do() {
         let mut theirs = std::vec::Vec::from_iter((0..len as u32).map(|n| n.wrapping_mul(0x9e37_79b1)));
         let mut ours = Vec::from_slice(Global, &theirs).unwrap();
         assert!(*ours == *theirs && *SliceIn::rattle_to_vec(&theirs[..], Global).unwrap() == *theirs);
-        assert!(*SliceIn::rattle_to_owned(&theirs[..], Global).unwrap() == *theirs);
+        assert!(*RepeatIn::rattle_to_owned(&theirs[..], Global).unwrap() == *theirs);
         assert!(*Vec::from_elem(Global, 7_u8, len).unwrap() == *std::vec![7; len]);
         for index in [len - 1, len / 2, 65_536.min(len - 3)] {
             assert_eq!(ours.swap_remove(index), theirs.swap_remove(index));
@@ -490,9 +490,9 @@ fn values_with_no_size_are_counted() {
     }
     needs_none!(all.resize(70_000, ())).unwrap();
     assert_eq!((all.len(), all.pop(), all.len()), (70_000, Some(()), 69_999));
-    assert_eq!(needs_none!(SliceIn::rattle_repeat(&[(); 3][..], Global, 4)).unwrap().len(), 12);
+    assert_eq!(needs_none!(RepeatIn::rattle_repeat(&[(); 3][..], Global, 4)).unwrap().len(), 12);
     // One value more than a vector can have.
-    assert!(needs_none!(SliceIn::rattle_repeat(&[(); 2][..], Global, usize::MAX)).is_err());
+    assert!(needs_none!(RepeatIn::rattle_repeat(&[(); 2][..], Global, usize::MAX)).is_err());
 }
 
 /// Characters of each width in UTF-8, those at the bounds of each width, and characters that are often ignored.
@@ -561,7 +561,7 @@ fn each_bound_is_as_it_was() {
     assert_eq!((all.len(), all.as_slice().len(), all.slice_mut(1..).len()), (2, 2, 1));
     let again: Vec<Bare<'_>> = all.into_iter().rattle_collect(Global).unwrap();
     let again: std::result::Result<Vec<_>, AllocError> = again.into_iter().map(Ok).rattle_try_collect(Global);
-    let pairs: rattle_std::iter::Zip<_, _> = again.unwrap().into_iter().rattle_zip([bare()]);
+    let pairs: rattle_host::iter::Zip<_, _> = again.unwrap().into_iter().rattle_zip([bare()]);
     assert_eq!(pairs.count(), 1);
     let copied = (0..3).rattle_zip(4..6);
     assert_eq!(copied.clone().count(), copied.count());
@@ -569,7 +569,7 @@ fn each_bound_is_as_it_was() {
     assert_eq!(&*ToStringIn::rattle_to_string(shown, Global).unwrap(), "7");
     assert_eq!(&*ToStringIn::rattle_to_string("a", Global).unwrap(), "a");
     assert_eq!(&*Alternate.rattle_to_string(Global).unwrap(), "false");
-    let _: Option<rattle_std::net::Ipv4Addr> = None;
+    let _: Option<rattle_host::net::Ipv4Addr> = None;
 }
 
 /// A macro accepts what Rust's macro accepts: a comma or a semicolon at the end, and values without `Debug`.
@@ -577,8 +577,8 @@ fn each_bound_is_as_it_was() {
 fn the_macros_take_what_those_of_rust_take() {
     #[derive(PartialEq)]
     struct Unprinted(u8);
-    rattle_std::prove_eq!(Unprinted(1), Unprinted(1));
-    rattle_std::prove_ne!(Unprinted(1), Unprinted(2));
+    rattle_host::prove_eq!(Unprinted(1), Unprinted(1));
+    rattle_host::prove_ne!(Unprinted(1), Unprinted(2));
     let none: Vec<Unprinted> = vec![in Global;].unwrap();
     assert!(none.is_empty());
     assert_eq!(*vec![in Global; 1, 2,].unwrap(), [1, 2]);
@@ -718,20 +718,20 @@ fn the_macros_make_vectors_and_strings() {
 
 #[test]
 fn conditions_that_were_proved_are_tested_in_debug_alone() {
-    rattle_std::prove!(true, "message");
-    rattle_std::prove_eq!(1, 1);
-    rattle_std::prove_ne!(1, 2);
+    rattle_host::prove!(true, "message");
+    rattle_host::prove_eq!(1, 1);
+    rattle_host::prove_ne!(1, 2);
     // Without debug assertions the conditions and the values aren't evaluated.
     let count = std::cell::Cell::new(0);
     let next = || count.replace(count.get() + 1);
-    rattle_std::prove!(next() == 0);
-    rattle_std::prove_eq!(next(), 1);
-    rattle_std::prove_ne!(next(), 9);
+    rattle_host::prove!(next() == 0);
+    rattle_host::prove_eq!(next(), 1);
+    rattle_host::prove_ne!(next(), 9);
     assert_eq!(count.get(), if cfg!(debug_assertions) { 3 } else { 0 });
     let tried = |call: fn()| std::panic::catch_unwind(call).is_err();
-    assert_eq!(tried(|| rattle_std::prove!(1 > 2)), cfg!(debug_assertions));
-    assert_eq!(tried(|| rattle_std::prove_eq!(1, 2)), cfg!(debug_assertions));
-    assert_eq!(tried(|| rattle_std::prove_ne!(2, 2)), cfg!(debug_assertions));
+    assert_eq!(tried(|| rattle_host::prove!(1 > 2)), cfg!(debug_assertions));
+    assert_eq!(tried(|| rattle_host::prove_eq!(1, 2)), cfg!(debug_assertions));
+    assert_eq!(tried(|| rattle_host::prove_ne!(2, 2)), cfg!(debug_assertions));
 }
 
 #[test]
@@ -826,24 +826,24 @@ fn bytes_that_are_no_text_are_given_back() {
 #[test]
 fn slices_and_texts_are_copied() {
     assert_eq!(*needs_memory!(SliceIn::rattle_to_vec(&[1, 2][..], Global)), [1, 2]);
-    assert_eq!(*needs_memory!(SliceIn::rattle_to_owned(&[1, 2][..], Global)), [1, 2]);
-    assert_eq!(*needs_memory!(SliceIn::rattle_repeat(&[1, 2][..], Global, 3)), [1, 2, 1, 2, 1, 2]);
-    assert!(SliceIn::rattle_repeat(&[1_u8, 2][..], Global, usize::MAX).is_err());
+    assert_eq!(*needs_memory!(RepeatIn::rattle_to_owned(&[1, 2][..], Global)), [1, 2]);
+    assert_eq!(*needs_memory!(RepeatIn::rattle_repeat(&[1, 2][..], Global, 3)), [1, 2, 1, 2, 1, 2]);
+    assert!(RepeatIn::rattle_repeat(&[1_u8, 2][..], Global, usize::MAX).is_err());
     assert_eq!(&*needs_memory!("ab".rattle_to_owned(Global)), "ab");
     assert_eq!(&*needs_memory!(StrIn::rattle_repeat("ab", Global, 3)), "ababab");
     assert!(StrIn::rattle_repeat("ab", Global, usize::MAX).is_err());
     // The product of the lengths overflows, and would wrap to 0. The call fails before it allocates.
     let half = 1 << (usize::BITS - 1);
-    assert!(needs_none!(SliceIn::rattle_repeat(&[1_u8, 2][..], Global, half)).is_err());
+    assert!(needs_none!(RepeatIn::rattle_repeat(&[1_u8, 2][..], Global, half)).is_err());
     assert!(needs_none!(StrIn::rattle_repeat("ab", Global, half)).is_err());
     // To repeat an empty slice takes no time, for any count.
-    assert!(needs_none!(SliceIn::rattle_repeat(&[0_u8; 0][..], Global, usize::MAX)).unwrap().is_empty());
+    assert!(needs_none!(RepeatIn::rattle_repeat(&[0_u8; 0][..], Global, usize::MAX)).unwrap().is_empty());
     assert!(needs_none!(StrIn::rattle_repeat("", Global, usize::MAX)).unwrap().is_empty());
-    let copies = SliceIn::rattle_repeat(&[1, 2, 3][..], Global, 50_000).unwrap();
+    let copies = RepeatIn::rattle_repeat(&[1, 2, 3][..], Global, 50_000).unwrap();
     assert!(*copies == [1, 2, 3].repeat(50_000) && copies.capacity() == 150_000);
     let copies = StrIn::rattle_repeat("a\u{df}", Global, 50_000).unwrap();
     assert!(copies.as_str() == "a\u{df}".repeat(50_000) && copies.capacity() == 150_000);
-    let copies = SliceIn::rattle_repeat(&[1, 2][..], Global, 3).unwrap();
+    let copies = RepeatIn::rattle_repeat(&[1, 2][..], Global, 3).unwrap();
     assert_eq!(copies.capacity(), 6);
     assert_eq!(StrIn::rattle_repeat("ab", Global, 3).unwrap().capacity(), 6);
 }
@@ -975,11 +975,10 @@ fn errors_are_printed_and_converted() {
 }
 
 /// The calls that read into a collection fail with `OutOfMemory` if the allocation of the collection fails.
-#[cfg(feature = "std")]
 #[test]
 fn reads_say_that_memory_is_short() {
-    use rattle_std::io::{ErrorKind, Write};
-    let kind = |read: rattle_std::io::Result<usize>| read.unwrap_err().kind();
+    use rattle_host::io::{ErrorKind, Write};
+    let kind = |read: rattle_host::io::Result<usize>| read.unwrap_err().kind();
     let (mut bytes, mut text) = (Vec::new(Global), String::new(Global));
     let (wrote, failed) = failing_after(0, || bytes.write(b"ab"));
     assert!(failed && kind(wrote) == ErrorKind::OutOfMemory);
@@ -1000,17 +999,16 @@ fn reads_say_that_memory_is_short() {
     let (read, failed) = failing_after(1, || rest.rattle_read_to_end(&mut bytes));
     assert!(failed && kind(read) == ErrorKind::OutOfMemory);
     assert_eq!((bytes.len(), rest.len()), (4096, 10_000 - 2 * 4096));
-    assert_eq!(rattle_std::io::Error::from(AllocError).kind(), ErrorKind::OutOfMemory);
-    assert_eq!(rattle_std::io::Error::from(AllocFailed { value: 7 }).kind(), ErrorKind::OutOfMemory);
+    assert_eq!(rattle_host::io::Error::from(AllocError).kind(), ErrorKind::OutOfMemory);
+    assert_eq!(rattle_host::io::Error::from(AllocFailed { value: 7 }).kind(), ErrorKind::OutOfMemory);
     // An error that is made of one of these is the plain one of its kind.
-    let plain = rattle_std::io::Error::from(ErrorKind::OutOfMemory).to_string();
-    for why in [rattle_std::io::Error::from(AllocError), rattle_std::io::Error::from(AllocFailed { value: 7 })] {
+    let plain = rattle_host::io::Error::from(ErrorKind::OutOfMemory).to_string();
+    for why in [rattle_host::io::Error::from(AllocError), rattle_host::io::Error::from(AllocFailed { value: 7 })] {
         assert_eq!((why.to_string(), why.get_ref().is_none()), (plain.clone(), true));
     }
 }
 
 /// `rattle_read_to_end` returns how many bytes it read, also if these are many.
-#[cfg(feature = "std")]
 #[test]
 fn long_inputs_are_read_whole() {
     for len in LONG {
@@ -1021,7 +1019,6 @@ fn long_inputs_are_read_whole() {
 }
 
 /// What the vector or string already has isn't counted, and stays.
-#[cfg(feature = "std")]
 #[test]
 fn inputs_are_read_behind_what_is_there() {
     for before in LONG.into_iter().chain([0, 4095, 4096, 4097, 8192]) {
@@ -1036,7 +1033,6 @@ fn inputs_are_read_behind_what_is_there() {
 }
 
 /// A character that the input ends within is an error, and the string stays as it was.
-#[cfg(feature = "std")]
 #[test]
 fn a_character_that_is_cut_is_refused() {
     for whole in ["é", "€", "\u{10ffff}"] {
@@ -1053,7 +1049,6 @@ fn a_character_that_is_cut_is_refused() {
 }
 
 /// Each input of up to seven bytes has the lines that Rust's `lines` gives.
-#[cfg(feature = "std")]
 #[test]
 fn lines_are_those_of_rust() {
     let mut inputs = std::vec![std::vec![]];
@@ -1071,10 +1066,8 @@ fn lines_are_those_of_rust() {
 }
 
 /// A reader that is interrupted before each read, and gives at most this many bytes at once.
-#[cfg(feature = "std")]
 struct Interrupted<'a>(&'a [u8], usize, bool);
 
-#[cfg(feature = "std")]
 impl std::io::Read for Interrupted<'_> {
     fn read(&mut self, buffer: &mut [u8]) -> std::io::Result<usize> {
         self.2 = !self.2;
@@ -1087,8 +1080,7 @@ impl std::io::Read for Interrupted<'_> {
 }
 
 /// The lines of a text, each by a call, with the result of the last call.
-#[cfg(feature = "std")]
-fn lines_of(text: &[u8], capacity: usize) -> (std::vec::Vec<std::string::String>, rattle_std::io::Result<usize>) {
+fn lines_of(text: &[u8], capacity: usize) -> (std::vec::Vec<std::string::String>, rattle_host::io::Result<usize>) {
     let mut reader = std::io::BufReader::with_capacity(capacity, Interrupted(text, 3, false));
     let mut lines = std::vec::Vec::new();
     loop {
@@ -1104,7 +1096,6 @@ fn lines_of(text: &[u8], capacity: usize) -> (std::vec::Vec<std::string::String>
 }
 
 /// The line is longer than 1 MiB, and the text has another one after it.
-#[cfg(feature = "std")]
 #[test]
 fn a_long_line_is_read_whole() {
     for len in [65_537, 1_048_577, 3_000_001] {
@@ -1123,7 +1114,6 @@ fn a_long_line_is_read_whole() {
     }
 }
 
-#[cfg(feature = "std")]
 #[test]
 fn a_line_is_read_in_pieces() {
     for capacity in 1..9 {
