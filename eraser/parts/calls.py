@@ -26,7 +26,7 @@ def check(source, word):
         check_macro(source, word)
     elif before == "." and after in ("(", "::"):
         check_method(source, word)
-    elif before == "::" and (after == "(" or after == "::" and source.word(2) == "<") and word[0].islower():
+    elif before == "::" and (after != "::" or source.word(2) == "<") and word[0].islower():
         check_function(source, word)
     elif word == "std" and after == "::":
         check_path(source)
@@ -104,9 +104,22 @@ def check_function(source, word):
             source.host()
     else:
         is_ours = owner in names.types | names.traits | names.modules | source.generic_names | {"self", "super", "crate", "Self", "<>"}
-        allowed = is_ours and word in names.functions | names.methods | names.trait_methods | known.DERIVED
+        allowed = is_ours and word in names.functions | names.methods | names.trait_methods | names.modules | known.DERIVED
+        allowed = allowed and not (is_of_a_type(source, owner) and may_be_inherited(source, owner, word))
     if not allowed:
         source.fail(f"the function {owner}::{word} isn't known", CONVERSIONS.get((owner, word), known.OTHERWISE))
+
+
+def is_of_a_type(source, owner):
+    return owner in source.crate.names.types | source.crate.names.traits | source.generic_names | {"Self", "<>"}
+
+
+def may_be_inherited(source, owner, word):
+    """Whether a function of std that means another thing in Rust may be the one that a path names: its type or trait doesn't
+    itself declare it."""
+    names = source.crate.names
+    owner = source.impl_type if owner == "Self" and source.impl_type else owner
+    return (word in INSTEAD or word in source.crate.std_names) and (owner, word) not in names.declared | names.inherent
 
 
 def allowed_path(path):

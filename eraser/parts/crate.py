@@ -7,6 +7,7 @@ from pathlib import Path
 
 from .names import Names, names_of
 from .source import EXAMPLE, EXPORT, Refused, Source, prelude
+from .tokens import tokens_of
 
 KEYS = {"name", "version", "license", "description", "checks", "measures", "usize_of_32_bits", "small_std", "exports"}
 TEST_MODULE = re.compile(r"#\[cfg\(test\)\]\s*(?:pub(?:\([^)]*\))?\s+)?mod\s+(\w+)\s*;")
@@ -128,7 +129,10 @@ def test_paths(texts):
 
 
 def finished(source):
-    """The text of an erased file, in order."""
-    text = EXAMPLE.sub(r"\1text\2", "".join(source.out))
-    text = re.sub(r"\{\s+\n", "{\n", re.sub(r"\n\s+\n", "\n\n", re.sub(r"[ \t]+\n", "\n", text)))
-    return text.strip() + "\n"
+    """The text of an erased file, with few blank lines, and examples as plain text."""
+    parts, last = [], ""
+    for token in tokens_of(source.joined(source.out)):
+        blanks = re.sub(r"\n\s+\n", "\n\n", re.sub(r"[ \t]+\n", "\n", EXAMPLE.sub(r"\1text\2", token.before)))
+        parts += [re.sub(r"^\s+\n", "\n", blanks) if last == "{" else blanks, token.text]
+        last = token.text
+    return "".join(parts).strip() + "\n"

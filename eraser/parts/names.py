@@ -13,7 +13,7 @@ TYPES = STRUCTURES | {"type"}
 class Names:
     """What a crate, or several, define. A method is a function with `self`.
 
-    `declared` has pairs of a trait and a method of it, and `implemented` pairs of a trait and a type that has it. `fields`
+    `declared` has pairs of a trait and a method of it, `inherent` pairs of a type and a function of its own, and `implemented` pairs of a trait and a type that has it. `fields`
     has public fields: the structure, the field and its type.
     """
 
@@ -24,6 +24,7 @@ class Names:
     structures: set = field(default_factory=set)
     fields: set = field(default_factory=set)
     declared: set = field(default_factory=set)
+    inherent: set = field(default_factory=set)
     implemented: set = field(default_factory=set)
     traits: set = field(default_factory=set)
     modules: set = field(default_factory=set)
@@ -69,6 +70,10 @@ def names_of(text):
             add_function(names, words, at, any(begin < at < end for begin, end in trait_ends))
     for begin, end in trait_ends:
         add_trait(names, words, begin, end)
+    for head, begin, end in blocks(words, "impl"):
+        if "for" not in words[head:begin]:
+            of = last_name(words, head + 1, begin)
+            names.inherent |= {(of, words[at + 1]) for at in range(begin, end) if words[at] == "fn"}
     return names
 
 
@@ -146,16 +151,21 @@ def angles_end(words, at):
 
 def trait_spans(words):
     """Where the blocks of traits, and of impls of traits, begin and end."""
-    spans = []
+    return [(begin, end) for head, begin, end in blocks(words, "trait", "impl") if words[head] == "trait" or "for" in words[head:begin]]
+
+
+def blocks(words, *heads):
+    """The places of these words, and where their blocks begin and end."""
+    found = []
     for at, word in enumerate(words):
-        if word not in ("trait", "impl") or words[at - 1] in (":", "&", "(", ",", "<", "->"):
+        if word not in heads or words[at - 1] in (":", "&", "(", ",", "<", "->"):
             continue
-        end = at
-        while words[end] not in ("{", ";", ""):
-            end += 1
-        if words[end] == "{" and (word == "trait" or "for" in words[at:end]):
-            spans.append((end, group_end(words, end)))
-    return spans
+        begin = at
+        while words[begin] not in ("{", ";", ""):
+            begin += 1
+        if words[begin] == "{":
+            found.append((at, begin, group_end(words, begin)))
+    return found
 
 
 def group_end(words, at):

@@ -160,7 +160,7 @@ def write(packages, only_check):
                    and "target" not in path.relative_to(folder).parts}
         present |= {place: folder / place for place in files if place.startswith("..") and (folder / place).exists()}
         differing = {place for place in files.keys() | present.keys()
-                     if place not in files or place not in present or not same(files[place], present[place].read_text(), only_check)}
+                     if place not in files or place not in present or not same(files[place], present[place].read_bytes().decode(), only_check)}
         for place in sorted(differing):
             print(f"{os.path.relpath(folder / place)} {'is not' if only_check else 'now is'} what is erased from the sources")
             if not only_check:

@@ -124,10 +124,18 @@ class Source:
         self.at += count
 
     def drop(self, count):
-        """Leaves tokens out, and keeps the comments before them."""
+        """Leaves tokens out, and keeps the comments before them, which end with their line."""
         before = self.tokens[self.at].before
-        self.out.append(before.rstrip() if "//" in before else "\n" * (before.count("\n") - 1))
         self.at += count
+        ends = "" if self.tokens[self.at].before.startswith("\n") else "\n"
+        self.out.append(before.rstrip() + ends if "//" in before else "\n" * (before.count("\n") - 1))
+
+    def joined(self, parts):
+        """The parts as one text, in which no token runs into another one or into a comment."""
+        text = "".join(parts)
+        if [each.text for each in tokens_of(text)] != [each.text for part in parts for each in tokens_of(part)[:-1]] + [""]:
+            raise Refused(f"{self.path}: tokens of this file run together: begin a line behind each comment")
+        return text
 
     def take_plain(self, count):
         """Writes so many tokens as they are."""
@@ -141,6 +149,8 @@ class Source:
         token, word = self.tokens[self.at], self.word()
         if token.kind == "none":
             self.fail(f"{word!r} begins no token of Rust")
+        if word in ("requires", "ensures", "ghost", "Drop") and self.in_macro():
+            self.fail(f"{word!r} in a macro isn't known", "it may decide which rule of the macro is taken: write it outside of the macro")
         if word in ("requires", "ensures") and token.kind == "word":
             return self.skip_clauses()
         if word == "ghost" or self.is_public_ghost():
@@ -160,6 +170,10 @@ class Source:
                       "take `f: &mut fmt::Formatter<W>` and nothing else of `W`")
         return self.emit(calls.written(self, word) if token.kind == "word" else word)
 
+    def in_macro(self):
+        """Whether the place is in a call or in the rules of a macro of the crate."""
+        return any(opened in ("macro", "rules") for opened, _ in self.stack)
+
     def check_number(self):
         """A number that goes on with a point or a letter is a float."""
         token, then, behind = self.tokens[self.at : self.at + 3]
@@ -178,7 +192,8 @@ class Source:
         has_start, then = self.ends_expression(-1), self.word(1)
         has_end = then not in (")", "]", "}", ",", ";", "=>", "{", "=", "")
         is_index = then in ("]", ")", ",") and self.stack and self.stack[-1][0] == "index"
-        if has_start and not has_end and not is_index and not self.is_pattern():
+        in_call = any(opened == "macro" for opened, _ in self.stack)
+        if has_start and not has_end and (in_call or not is_index and not self.is_pattern()):
             self.fail("a range with no end ends before the type's largest value in Rattle, and goes past it in Rust",
                       "write the end, as `a..u8::MAX`")
         if not has_start and has_end and self.stack and self.stack[-1][0] == "{":
@@ -213,6 +228,8 @@ class Source:
             self.fail(f"a string with the prefix {word!r} isn't known")
         if word == "stmt" and before == ":" and self.word(-3) == "$":
             self.fail("the fragment 'stmt' isn't known", "a block that ends in it may have another value in Rust: write `expr`")
+        if before == "$":
+            self.check_fragment(word)
         if word in HOSTED_NAMES:
             self.host()
         if word == "let" and self.is_chained():
@@ -220,6 +237,22 @@ class Source:
         if word == "where":
             self.in_where = True
         calls.check(self, word)
+
+    def check_fragment(self, word):
+        """Refuses what a macro is given in the place of the name of a method, a function, a module or a macro."""
+        if self.word(-2) in (".", "::", "fn") or self.word(1) in ("!", "::") and word != "crate":
+            self.fail(f"the name ${word} isn't known here", "what it means shows only where the macro is called: write the name")
+        if self.word(1) == ":" and self.word(2) == "tt":
+            self.fail("the fragment 'tt' isn't known", "a name may mean another thing beside other tokens: write `expr` or `ident`")
+
+    def check_rules(self):
+        """Refuses a point in a pattern of the macro whose rules come next: what the eraser renames follows one."""
+        at, end = 1, self.group()
+        while at < end - 1:
+            behind = self.group(at) if self.word(at) in OPEN else at + 1
+            if self.word(behind) == "=>" and "." in self.words(behind)[at:]:
+                self.fail("a point in a macro's pattern isn't known", "write another mark", at=self.at + at)
+            at = behind
 
     def is_chained(self):
         """Whether the `let` that comes next is one of several conditions."""
@@ -295,8 +328,12 @@ class Source:
     def take_group(self):
         """Writes a group in brackets, in which there may be attributes, and ghost fields."""
         end = self.at + self.group()
-        is_index = self.ends_expression(-1) if self.word() == "[" else self.takes_place()
-        self.stack.append(("index" if is_index else self.word(), end))
+        is_index = self.ends_expression(-1) and self.word(-2) != "$" if self.word() == "[" else self.takes_place()
+        is_rules = self.word(-3) == "macro_rules"
+        if is_rules:
+            self.check_rules()
+        is_call = self.word(-1) == "!" and self.word(-2) in self.crate.names.macros
+        self.stack.append(("rules" if is_rules else "macro" if is_call else "index" if is_index else self.word(), end))
         self.take()
         while self.at < end - 1:
             if self.word() in OPEN:
@@ -316,6 +353,8 @@ class Source:
         count = self.group(1 + inner, "[")
         text = "".join(self.words(count)[2 + inner : -1])
         name = text if text == EXPORT else re.match(r"\w*", text).group()
+        if self.in_macro() and (name in GONE_ATTRIBUTES or "Drop" in text):
+            self.fail(f"the attribute {text!r} in a macro isn't known", "it may decide which rule of the macro is taken")
         if name in GONE_ATTRIBUTES or name == EXPORT:
             self.drop(count)
         elif name == "derive":
@@ -464,7 +503,7 @@ class Source:
     def type_item(self, word, start):
         """Writes a structure, an enum or a macro, with what the ghost fields of a structure say of it."""
         name, self.invariants = self.word(1), [] if word == "struct" else None
-        self.take_until("{", ";", "(")
+        self.take_until("{", ";", "(", *["["] * (word == "macro_rules"))
         if self.word() != ";":
             self.take_group()
         if word == "struct" and self.word(-1) == ")" or word == "macro_rules" and self.word() == ";":
@@ -479,7 +518,7 @@ class Source:
 
     def document(self, start, lines):
         """Puts lines behind the doc comment of the item whose first token is the one of `out` at `start`."""
-        before, pad, rest = LEADING.fullmatch("".join(self.out[start:])).groups()
+        before, pad, rest = LEADING.fullmatch(self.joined(self.out[start:])).groups()
         lines = lines if "///" in before else lines[1:]
         self.out[start:] = [before + "".join(f"{pad}{each}\n" for each in lines) + pad + rest]
 
@@ -687,7 +726,7 @@ class Source:
 
     def finish(self, start, attributes, record, header, has_body):
         """Puts in the hint to inline, and the line of the caller for the checks."""
-        before, pad, rest = LEADING.fullmatch("".join(self.out[start:])).groups()
+        before, pad, rest = LEADING.fullmatch(self.joined(self.out[start:])).groups()
         is_hosted = rest.startswith("rattle_c::main!") or "test" in attributes
         has_hint = any(re.match(r"inline|cold", each) for each in attributes)
         lines = ["#[inline]"] if has_body and not self.in_tests and not is_hosted and not has_hint else []

@@ -36,7 +36,7 @@ pub mod traits {
     pub use rattle_std::traits::*;
 }
 
-/// What each erased file of a program, and of tests, imports: types, and the [traits](crate::traits) without their names.
+/// What each erased file of a program, and of tests, imports: types, and the [traits] without their names.
 pub mod prelude {
     pub use crate::rt::{AllocGlobal, Eprint, HostRuntime, Input, Print};
     pub use crate::traits::{BufReadIn as _, ExpectOrStop as _, ReadIn as _};

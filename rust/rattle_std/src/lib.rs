@@ -92,7 +92,7 @@ pub mod traits {
     pub use crate::slices::{AsChunks, SliceIn};
 }
 
-/// What each erased file imports: types, and the [traits](crate::traits), whose names stay free for a trait of the file.
+/// What each erased file imports: types, and the [traits], whose names stay free for a trait of the file.
 pub mod prelude {
     pub use crate::traits::{AsChunks as _, SliceIn as _};
     pub use crate::vec::Vec;
