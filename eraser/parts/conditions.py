@@ -8,11 +8,14 @@ of erased code are those of the source: to send them past the check, the eraser 
 import re
 
 from .known import OURS
-from .tokens import tokens_of
+from .tokens import END, tokens_of
 
 COMPARED = {"<": "<", "≤": "<=", "≡": "==", "≢": "!="}
 SUMS = {"+": "saturating_add", "-": "saturating_sub", "*": "saturating_mul"}
 LARGEST = 2**127
+# What a check of package.toml may have: methods of std that only read, and marks that can't panic.
+READERS = {"contains", "ends_with", "first", "is_empty", "is_none", "is_some", "last", "len", "starts_with"}
+MARKS = set("( ) , . .. ..= ! & && | || == != < <= > >= ::".split())
 
 
 class Unknown(Exception):
@@ -174,14 +177,39 @@ class Condition:
         return f"({value} as u128)"
 
 
-def check_of(clause, types, crate, is_const=False):
+def check_of(clause, types, source, is_const=False):
     """The clause as a condition in Rust, as package.toml has it or as it is understood here; else None. A constant function
     can't call any method."""
+    crate = source.crate
+    check = crate.settings.get("checks", {}).get(clause)
+    if check:
+        crate.used_checks.add(clause)
+        if why := fault_of(check, clause, types, crate):
+            source.fail(f"the check {check!r} of package.toml isn't known", why)
     try:
-        check = crate.settings.get("checks", {}).get(clause) or Condition(clause, types, crate.names.types_of_fields(), crate.measures).rust()
+        check = check or Condition(clause, types, crate.names.types_of_fields(), crate.measures).rust()
     except Unknown:
         return None
     return None if is_const and re.search(r"\.(?!saturating_)\w+\(", check) else check
+
+
+def fault_of(check, clause, types, crate):
+    """Why a check of package.toml isn't taken: it only reads and compares the parameters that the clause names."""
+    own = crate.names.methods | crate.names.trait_methods
+    readers = READERS - own | set(crate.measures.values())
+    tokens = tokens_of(check)[:-1]
+    for before, token, after in zip([END, *tokens], tokens, [*tokens[1:], END]):
+        is_macro = token.text == "matches" and after.text == "!" and "matches" not in crate.names.macros
+        is_constant = token.text[0].isupper() and after.text not in ("(", "!")
+        is_parameter = token.text in types and before.text != "." and after.text not in ("(", "!", "::")
+        is_reader = token.text in readers and before.text == "." and after.text == "("
+        if token.kind == "word" and not (is_macro or is_constant or is_parameter or is_reader):
+            return f"it may have parameters, constants, `matches!`, and as methods those of `measures` and {', '.join(sorted(READERS - own))}"
+        if token.kind not in ("word", "number", "char", "string") and token.text not in MARKS:
+            return f"{token.text!r} isn't known there"
+    if {each.text for each in tokens} & types.keys() != {each.text for each in tokens_of(clause)} & types.keys():
+        return "it has to name the same parameters as the clause"
+    return None
 
 
 def checks_of(function, pad):

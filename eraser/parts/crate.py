@@ -29,7 +29,7 @@ def listed_crates(top):
         head, _, dependencies = line.split("#")[0].partition(":")
         if head.split():
             name, *words = head.split()
-            crates[name] = Listed([each for each in dependencies.split() if each[0].isalpha() and each != "low"],
+            crates[name] = Listed(dependencies.split(),
                                   "staticlib" in words)
     return crates
 
@@ -56,7 +56,7 @@ class Crate:
         self.names.add(dependency_names)
         self.std_names = {name: mark or traits for mark, name, traits in re.findall(r"(\*?)(\w+):?(\S*)", STD_NAMES.read_text())}
         self.names_io = self.names_any("io")
-        self.sources, self.is_hosted = {}, False
+        self.sources, self.is_hosted, self.used_checks = {}, False, set()
 
     def names_any(self, words):
         """Whether a file of the crate has one of these words, which commas separate."""
@@ -81,8 +81,24 @@ class Crate:
                 break
         if errors := [each for source in self.sources.values() for each in source.errors]:
             raise Refused("\n".join(dict.fromkeys(errors)))
+        self.check_settings()
         return {path.relative_to(self.folder).with_suffix(".rs").as_posix(): finished(source)
                 for path, source in self.sources.items()}
+
+    def check_settings(self):
+        """Refuses a check of a clause that no function has, and a measure that its method doesn't promise."""
+        path, measures = self.folder / "package.toml", self.settings.get("measures", {})
+        if unused := self.settings.get("checks", {}).keys() - self.used_checks:
+            raise Refused(f"{path}: no function requires {sorted(unused)[0]!r}")
+        functions = [each for source in self.sources.values() for each in source.functions]
+        for form, method in measures.items():
+            if form != "types":
+                promise = "result ≡ " + re.sub(r"\bx\b", "self.now", form)
+                found = [promise in each.promises and each.parameters == [["&", "self"]] for each in functions
+                         if each.name == method and each.of in measures["types"]]
+                if not found or not all(found):
+                    raise Refused(f"{path}: the measure {form!r} isn't known: {method!r} of {' or '.join(measures['types'])} has to "
+                                  f"take `&self` alone and have the clause `ensures {{ {promise} }}`")
 
     def erase_file(self, path):
         source = Source(path, self.texts[path], self, path in self.test_paths)

@@ -41,6 +41,7 @@ def manifest(crate, places, license_line, kit):
              f'description = "{description}"', 'readme = "README.md"', license_line,
              'include = ["/src", "/README.md"]', "",
              "[package.metadata.rattle]", f'crate = "{crate.name}"', f'kit = "{kit}"',
+             f"# The tree of crates/{crate.name}/src alone: its specs, proofs and package.toml aren't in it.",
              f'sources = "{tree_of(crate)}"', *measures(crate), ""]
     if not crate.is_program:
         lines += ["[lib]", "doctest = false", ""]
@@ -101,9 +102,13 @@ def tree_of(crate):
     return tree(crate.folder / "src")
 
 
+def in_table(text):
+    return text.replace("|", "\\|")
+
+
 def invariants(crate):
     """What the proofs rely on of structures whose fields a caller can change."""
-    rows = [f"| `{name}` | `{each.replace('|', chr(92) + '|')}` |" for source in crate.sources.values()
+    rows = [f"| `{name}` | `{in_table(each)}` |" for source in crate.sources.values()
             for name, conditions, is_open in source.structures if is_open for each in conditions]
     if not rows:
         return []
@@ -119,7 +124,7 @@ def in_words(clause, documentation):
     sentences = [each for part in text for each in re.split(r"(?<=[.!]) (?=[A-Z`])", " ".join(part.split()))
                  if re.search(r"\b(?:must|ha(?:s|ve) to)\b", each)]
     named = [each for each in sentences if set(re.findall(r"\w+", clause)) & set(re.findall(r"\w+", "".join(re.findall(r"`[^`]*`", each))))]
-    return "".join(f"{each.replace('|', chr(92) + '|')} " for each in named or sentences)
+    return "".join(f"{in_table(each)} " for each in named or sentences)
 
 
 def readme(crate, functions):
@@ -129,10 +134,11 @@ def readme(crate, functions):
             "Each function has the text that Rattle's checker proves. "
             "`tools/erase` doesn't run the checker: `rt ci` does, over the sources that Cargo.toml names."]
     public = [(path, each) for path, each in functions if each.is_public]
+    by_hand = ", and those marked \"as\" by this expression of package.toml," if crate.settings.get("checks") else ""
     if public and not crate.is_program:
         text += ["", "## Conditions on callers", "",
                  "Rattle's checker proves these conditions at each call in Rattle. A caller in Rust has to meet them. " + (
-                     "With the feature `checked`, which is on by default, a function checks those marked \"yes\" and panics if one "
+                     f"With the feature `checked`, which is on by default, a function checks those marked \"yes\"{by_hand} and panics if one "
                      "doesn't hold." if any(each.checks for _, each in public)
                      else "No function checks them."),
                  "", "| Function | Condition | Checked |", "|---|---|---|"]
@@ -141,7 +147,8 @@ def readme(crate, functions):
             for clause, check in each.conditions:
                 is_checked = (clause, check) in each.checks
                 said = "" if is_checked else in_words(clause, each.documentation)
-                text.append(f"| `{each.name}` ({place}) | {said}`{clause.replace('|', chr(92) + '|')}` | "
-                            f"{'yes' if is_checked else 'no'} |")
+                own = crate.settings.get("checks", {}).get(clause)
+                checked = "no" if not is_checked else f"as `{in_table(own)}`" if own else "yes"
+                text.append(f"| `{each.name}` ({place}) | {said}`{in_table(clause)}` | {checked} |")
     text += invariants(crate)
     return "\n".join(text) + "\n"

@@ -13,7 +13,7 @@ from .known import OURS
 from .names import Names, names_of
 from .source import Refused
 
-KIT = re.compile(r'(?m)^kit = ".*"\n')
+KIT = re.compile(r'(?m)(^\[package\.metadata\.rattle\]\ncrate = "\w+"\n)kit = "[^"\n]*"\n')
 
 
 def erased(top, to, over, names):
@@ -174,7 +174,7 @@ def write(packages, only_check):
 
 def same(text, present, only_check):
     """Whether two files are equal. A check passes over the line of the kit, and nothing replaces its name if there is no kit."""
-    return text == present or (only_check or kit() == "unknown") and KIT.sub("", text) == KIT.sub("", present)
+    return text == present or (only_check or kit() == "unknown") and KIT.sub(r"\1", text) == KIT.sub(r"\1", present)
 
 
 def update(path, text):

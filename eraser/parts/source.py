@@ -22,7 +22,8 @@ class Refused(Exception):
 
 @dataclass
 class Function:
-    """A function that was read: where it is, its parameters, and its conditions with their checks in Rust, or None."""
+    """A function that was read: where it is, its parameters, the type whose method it is, its conditions with their checks in
+    Rust, or None, and what it ensures."""
 
     name: str
     line: int
@@ -30,7 +31,9 @@ class Function:
     parameters: list
     generics: list
     is_checked: bool
+    of: str = ""
     conditions: list = field(default_factory=list)
+    promises: list = field(default_factory=list)
     result: str | None = None
     documentation: str = ""
 
@@ -700,12 +703,14 @@ class Source:
             self.at += self.group(1, "{")
         types = conditions.types_of(record.parameters)
         if record.is_method:
-            types["self"] = self.impl_type or ""
+            types["self"] = record.of = self.impl_type or ""
         while self.word() in ("requires", "ensures"):
             is_condition = self.word() == "requires"
             clause = self.skip_clause()
-            if is_condition:
-                record.conditions.append((clause, conditions.check_of(clause, types, self.crate, is_const)))
+            if not is_condition:
+                record.promises.append(clause)
+            else:
+                record.conditions.append((clause, conditions.check_of(clause, types, self, is_const)))
         return self.at > start
 
     def forward(self, record, header, pad):
