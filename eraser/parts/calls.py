@@ -154,17 +154,10 @@ def use(source):
         end += 1
     paths = leaves([token.text for token in source.tokens[source.at + 1 : end]])
     for path in paths:
-        if path != MODEL:
-            check_leaf(source, path)
-    source.take_plain(1)
-    while source.word() != ";":
-        word = source.word()
-        is_leaf = source.word(1) in (",", "}", ";") and source.tokens[source.at].kind == "word"
-        if is_leaf and word == "Model" and MODEL in paths:
-            source.drop(1 + (source.word(1) == ","))
-        else:
-            source.take_plain(1)
-    return source.take_plain(1)
+        if path == MODEL:
+            source.fail(f"{MODEL} among other names isn't known", f"write `use {MODEL};` on a line of its own")
+        check_leaf(source, path)
+    return source.take_plain(end + 1 - source.at)
 
 
 def leaves(words):

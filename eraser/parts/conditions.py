@@ -64,16 +64,11 @@ class Condition:
             except Unknown:
                 pass
             self.at = start
-        left, sides = self.sum(), []
-        while self.word() in COMPARED:
-            compared = COMPARED[self.word()]
-            self.at += 1
-            right = self.sum()
-            sides.append(f"{left} {compared} {right}")
-            left = right
-        if not sides:
+        left, compared = self.sum(), COMPARED.get(self.word())
+        if not compared:
             raise Unknown
-        return " && ".join(sides)
+        self.at += 1
+        return f"{left} {compared} {self.sum()}"
 
     def sum(self):
         return self.operands(("+", "-"), self.product)
@@ -224,10 +219,9 @@ def checks_of(function, pad):
 def forward_of(header, pad, function):
     """The method under the name by which erased code calls it."""
     names = [words[words[0] == "mut"] for words in function.parameters[1:]]
-    generics = f"::<{', '.join(function.generics)}>" if function.generics else ""
     header = header.replace(f"fn {function.name}", f"fn {OURS}{function.name}", 1).strip()
     return (f"\n\n{pad}#[doc(hidden)]\n{pad}#[inline]\n{pad}{header} {{\n"
-            f"{pad}    self.{function.name}{generics}({', '.join(names)})\n{pad}}}")
+            f"{pad}    self.{function.name}({', '.join(names)})\n{pad}}}")
 
 
 def types_of(parameters):

@@ -155,25 +155,35 @@ def write(packages, only_check):
     """Writes the packages, or says what differs. Returns the exit status."""
     passed = failed = 0
     for folder, files in packages.items():
-        present = {path.relative_to(folder).as_posix(): path for path in folder.rglob("*")
-                   if path.is_file() and (path.suffix in (".rs", ".md", ".h") or path.name in ("Cargo.toml", "rustfmt.toml"))
-                   and "target" not in path.relative_to(folder).parts}
+        present = {path.relative_to(folder).as_posix(): path for path in folder.rglob("*") if not path.is_dir() and is_ours(path, folder)}
         present |= {place: folder / place for place in files if place.startswith("..") and (folder / place).exists()}
         differing = {place for place in files.keys() | present.keys()
-                     if place not in files or place not in present or not same(files[place], present[place].read_bytes().decode(), only_check)}
-        for place in sorted(differing):
+                     if place not in files or place not in present or not same(files[place], present[place].read_bytes(), only_check)}
+        foreign = {place for place in differing - files.keys() if not place.endswith((".rs", ".md", ".h"))}
+        for place in sorted(foreign):
+            print(f"{os.path.relpath(folder / place)} has no source: remove it")
+        for place in sorted(differing - foreign):
             print(f"{os.path.relpath(folder / place)} {'is not' if only_check else 'now is'} what is erased from the sources")
             if not only_check:
                 update(folder / place, files.get(place))
-        passed, failed = passed + len(files.keys() - differing), failed + len(differing) * only_check
-    if failed:
+        passed, failed = passed + len(files.keys() - differing), failed + len(differing if only_check else foreign)
+    if failed and only_check:
         print("erase: call tools/erase without --check, which writes these files, and commit them")
     print(f"{passed} passed, {failed} failed" if only_check else f"{passed} files are as they were")
     return int(failed > 0 or passed == 0 and only_check)
 
 
-def same(text, present, only_check):
+def is_ours(path, folder):
+    """Whether a file is one that cargo doesn't write: cargo may read every other one, such as `build.rs` or `.cargo/config.toml`."""
+    return "target" not in path.relative_to(folder).parts and path.name != "Cargo.lock"
+
+
+def same(text, data, only_check):
     """Whether two files are equal. A check passes over the line of the kit, and nothing replaces its name if there is no kit."""
+    try:
+        present = data.decode()
+    except UnicodeDecodeError:
+        return False
     return text == present or (only_check or kit() == "unknown") and KIT.sub(r"\1", text) == KIT.sub(r"\1", present)
 
 

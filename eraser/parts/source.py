@@ -74,7 +74,7 @@ class Source:
         self.functions, self.exports, self.macros = [], [], set()
         self.needs_host = self.has_chain = False
         self.structures, self.invariants, self.errors = [], None, []
-        self.impl_type, self.in_where, self.formatter, self.documentation = None, False, None, ""
+        self.impl_type, self.formatter, self.documentation = None, None, ""
 
     # Reading.
 
@@ -235,10 +235,12 @@ class Source:
             self.check_fragment(word)
         if word in HOSTED_NAMES:
             self.host()
+        if word == "where":
+            self.check_where()
+        if word == "mod" and self.stack:
+            self.fail("a module within a body isn't known", "write it beside the function")
         if word == "let" and self.is_chained():
             self.has_chain = True
-        if word == "where":
-            self.in_where = True
         calls.check(self, word)
 
     def check_fragment(self, word):
@@ -279,22 +281,19 @@ class Source:
         before, after = self.word(-1), self.word(1)
         if before not in (":", "+") or self.word(2) == "{" and before == ":" and after == "for":
             self.fail("'Drop' isn't known", WORDS["Drop"])
-        if self.in_where and before == ":" and after != "+":
-            return self.drop_predicate()
         if after == "+":
             self.at += 2
         else:
             self.out.pop()
             self.at += 1
 
-    def drop_predicate(self):
-        """Leaves out the predicate of a `where` whose only bound is `Drop`, and a `where` that has no other."""
-        if self.word(-3) not in ("where", ","):
-            self.fail("'Drop' as the only bound of this type isn't known", "write it where the parameter is declared")
-        self.at += 1 + (self.word(1) == ",")
-        del self.out[-2:]
-        if self.out[-1].strip() == "where" and self.word() in ("{", ";", "requires", "ensures"):
-            self.out.pop()
+    def check_where(self):
+        """Refuses a predicate of the `where` that comes next whose only bound is `Drop`."""
+        on = 1
+        while self.word(on) not in ("{", ";", "requires", "ensures", ""):
+            if [self.word(on), self.word(on + 1)] == [":", "Drop"] and self.word(on + 2) != "+":
+                self.fail("'Drop' as the only bound in a `where` isn't known", "write it where the parameter is declared")
+            on += 1
 
     def skip_clauses(self):
         """Leaves out clauses: of a function, or of a closure, whose body follows."""
@@ -438,7 +437,7 @@ class Source:
                 self.item()
             except Refused as why:
                 self.errors.append(str(why))
-                self.at, self.stack, self.invariants, self.formatter, self.in_where = start, stack, None, None, False
+                self.at, self.stack, self.invariants, self.formatter = start, stack, None, None
                 del self.out[written:]
                 self.skip_item()
                 self.at += self.at == start
@@ -568,7 +567,7 @@ class Source:
         calls.check_impl(self)
         self.take_until("{")
         header = [token.text for token in self.tokens[start : self.at]]
-        self.in_where, was = False, self.impl_type
+        was = self.impl_type
         self.impl_type = impl_type_of(header) if is_impl and "for" not in header else None
         self.take()
         self.items("}")
@@ -601,7 +600,7 @@ class Source:
             self.out[body] = f" {text}" if text[:1] == "{" else text
         if has_body and record.checks:
             self.put_checks(body, record, LEADING.fullmatch(header)[2])
-        self.formatter, self.in_where = None, False
+        self.formatter = None
         record.documentation = documentation
         self.functions.append(record)
         if EXPORT in attributes:
@@ -719,6 +718,8 @@ class Source:
             return ""
         if not self.impl_type:
             self.fail(f"a trait's method {record.name!r} isn't known", "std has one that allocates: rename yours")
+        if record.generics:
+            self.fail(f"generic parameters of a method {record.name!r} aren't known", "std has one that allocates: rename yours")
         if record.parameters[0][-1] != "self" or any(words[1 + (words[0] == "mut")] != ":" for words in record.parameters[1:]):
             self.fail(f"the parameters of {record.name!r} aren't known", "give each a name, as `to_vec(&self, alloc: Global)`")
         return conditions.forward_of(header, pad, record)
