@@ -51,6 +51,7 @@ impl PartialEq for State {
     ghost laws = { partial_equiv_from_equiv (lists_equiv bool_eq_equiv) };
 
     fn eq(&self, other: &State) -> bool
+        // Whether the paths are equal, as a value and as a statement.
         ensures value { result ≡ pointwise beq self.now other.now }
         ensures same { IsTrue result ↔ (self.now ≡ other.now) }
     {
@@ -114,6 +115,8 @@ impl State {
     #[inline(always)]
     pub fn is_fill(&self) -> bool
         ensures fill { IsTrue result ↔ IsFill self.now }
+
+        // The path of every state is open, by its type. A caller's proof may need to know that.
         ensures open { IsOpen self.now }
     {
         self.index < 8

@@ -9,7 +9,8 @@ use crate::tables::looks::{CUTS, PAIRS};
 /// The codes that are complete in 12 bits, at most two.
 #[derive(Clone, Copy, Debug, PartialEq, Eq)]
 pub struct Look {
-    /// The length of these codes in bits, plus 64 times their number.
+    /// The length of these codes in bits, plus 64 times their number. One byte of the table so has
+    /// both, and a decoder that adds up the cuts of several lookups adds up both at once.
     pub cut: u8,
     /// The bytes of these codes. The first byte is the lower one.
     pub pair: u16,
@@ -19,6 +20,7 @@ pub struct Look {
 #[inline(always)]
 pub fn look_at(index: u16) -> Look
     requires { index < 4096 }
+    // There are at most two. If there is none, the 12 bits are the beginning of a longer code.
     ensures { IsLook (bits_of 12 index) result.cut result.pair }
 {
     Look {

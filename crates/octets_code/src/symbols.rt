@@ -14,6 +14,7 @@ use crate::tables::lengths::CODE_LENGTHS;
 #[inline(always)]
 pub fn code_of(sym: u16) -> Code
     requires { sym ≤ 256 }
+    // It is the code of the table in `specs/Table.antt`, as a number and as bits.
     ensures row { HasCode sym result.len result.bits }
     ensures bits { bits_of result.len result.bits ≡ code sym }
     ensures small { (5 ≤ result.len) × (result.len ≤ 30) × (result.bits < 2 ^ result.len) }

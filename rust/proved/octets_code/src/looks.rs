@@ -7,7 +7,8 @@ use crate::tables::looks::{CUTS, PAIRS};
 /// The codes that are complete in 12 bits, at most two.
 #[derive(Clone, Copy, Debug, PartialEq, Eq)]
 pub struct Look {
-    /// The length of these codes in bits, plus 64 times their number.
+    /// The length of these codes in bits, plus 64 times their number. One byte of the table so has
+    /// both, and a decoder that adds up the cuts of several lookups adds up both at once.
     pub cut: u8,
     /// The bytes of these codes. The first byte is the lower one.
     pub pair: u16,
