@@ -18,12 +18,13 @@ pub(super) struct Group {
     pub(super) bytes: u64,
 }
 
-/// What lookups in a window have found.
+/// What at most four lookups in a window have found.
 #[derive(Clone, Copy)]
 struct Seen {
     /// The bits after the codes that were found.
     rest: u64,
-    /// The length of these codes in bits, plus 64 times their number.
+    /// The sum of the cuts of these lookups. They find fewer than 64 bits, so the sum is the length
+    /// of the codes, plus 64 times their number.
     sums: u64,
     /// The bytes of these codes. The first byte is the least significant one.
     bytes: u64,

@@ -1,12 +1,13 @@
 // Erased from crates/octets/src/huffman/decode/short.rt by tools/erase.
-//! Finds the codes of a short encoding, which is one window of 64 bits with one bits after its end.
+//! Finds the codes of an encoding of at most eight bytes, which is one window of 64 bits with one bits
+//! after its end.
 use rattle_std::{self as std, prelude::*};
 
 use octets_code::look_at;
 
-/// The codes that lookups found in a window.
+/// The codes of a window that the lookups found.
 pub(super) struct Found {
-    /// The number of bits of the codes that were found.
+    /// The length of these codes in bits.
     pub(super) at: usize,
     /// The number of these codes.
     pub(super) count: usize,
@@ -15,11 +16,16 @@ pub(super) struct Found {
 }
 
 /// Looks up the next 12 bits up to eight times, and writes the bytes of the codes that it finds to
-/// the start of `value`. The last codes may contain some of the one bits after the window's end.
+/// the start of `value`. It stops at a code of more than 12 bits, or if only one bits are left.
+///
+/// The last codes may contain some of the one bits after the window's end. The caller compares `at`
+/// with the length of the encoding.
 #[inline(always)]
 pub(super) fn look_through(window: u64, value: &mut [u8; 32]) -> Found {
     // The window is inverted, so a shift adds one bits after its end.
     let mut inverse = !window;
+    // The sum of the cuts of the lookups. Eight lookups may find 64 bits or more, which count as one
+    // code more in this sum. So the number of codes is also counted by itself.
     let mut sums: usize = 0;
     let mut count: usize = 0;
     let mut looks: usize = 0;
@@ -27,12 +33,10 @@ pub(super) fn look_through(window: u64, value: &mut [u8; 32]) -> Found {
     'looks: while looks < 8 && (looks < 2 || inverse != 0) {
         let look = look_at((!inverse >> 52) as u16);
         if look.cut == 0 {
-            return Found {
-                at: sums - 64 * count,
-                count,
-                inverse,
-            };
+            break 'looks;
         }
+        // Both bytes are written even if the lookup found one code; the next lookup overwrites the
+        // second.
         value[count] = (look.pair & 0xff) as u8;
         value[count + 1] = (look.pair >> 8) as u8;
         sums += usize::from(look.cut);
