@@ -5,7 +5,7 @@ use Rattle.octets.specs.declared.error.DecodeError.{DecodeError}
 use Rattle.octets.specs.declared.error.DecodeError.TheVariants.{Short, Memory}
 use Rattle.octets.specs.Octets.{Octets}
 use Rattle.octets.specs.Cursor.{bytes, rest, Passes, IsUnchanged}
-use Rattle.octets_code.specs.Answers.{IsRefusal, AreSteps}
+use Rattle.octets_code.specs.Answers.{IsAnswer, IsRefusal, AreSteps}
 use Rattle.octets_code.specs.Texts.{text, AreBytes}
 
 -- P holds if the decode failed with Short
@@ -31,6 +31,10 @@ abbrev pub Gives : {A : Type 0} → Result (Vec ℕ A) DecodeError → List ℕ 
 Gives (Ok w) v = w.items ≡ v
 Gives (Err (Short e)) v = ⊥
 Gives (Err (Memory e)) v = ⊤
+
+-- P holds of the value whose text t is, if t is the text of a value within the limit m
+abbrev pub WhereAnswer : List ℕ → ℕ → (List ℕ → Type 0) → Type 0
+WhereAnswer t m P = (v : List ℕ) → IsAnswer t m v → P v
 
 -- P holds of the value whose text t is, if t is the text of a value
 abbrev pub WhereText : List ℕ → (List ℕ → Type 0) → Type 0

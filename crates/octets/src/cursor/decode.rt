@@ -1,5 +1,11 @@
 //! Huffman decodes of all remaining bytes as one encoding, under a limit for the length of its value
 //! (RFC 7541, section 5.2).
+//!
+//! Each contract says in two ways what a decode returns. The clauses `value` and `every` say it by
+//! `IsAnswer`, which relates the bytes, the limit and the value. The clauses `text`, `one`, `limit`
+//! and `given` follow from these two. They say it by `text v`, which is the encoding of v, and serve
+//! a caller that knows which value was encoded. The clause `ends` says where a decode leaves the
+//! offset, and how much memory it allocates.
 ghost use Rattle.std.specs.Prelude.{◌≡◌, ◌+◌, ◌*◌, ◌<◌, ◌≤◌, ◌^◌, ◌++◌, length, take, drop};
 ghost use Rattle.std.specs.Prelude.{ℕ, vec_len, List, IfOk, IfErr, IsOkAnd, OnOk, OnErr};
 ghost use Rattle.octets_code.specs.Answers.{IsAnswer};
@@ -7,7 +13,7 @@ ghost use Rattle.octets_code.specs.Texts.{text, AreBytes, IsText};
 ghost use Rattle.octets.specs.Reading.{IsReadBefore};
 ghost use Rattle.octets.specs.Stops.{IsStoppedBy};
 ghost use Rattle.octets.specs.Decodes.{OnMemory, UnlessMemory, EndsDecode};
-ghost use Rattle.octets.specs.Decodes.{Gives, Counts, WhereText, no_limit};
+ghost use Rattle.octets.specs.Decodes.{Gives, Counts, WhereAnswer, WhereText, no_limit};
 
 use crate::cursor::read_only::Octets;
 use crate::cursor::writable::OctetsMut;
@@ -39,8 +45,7 @@ impl<'a> Octets<'a> {
         ensures every { (v : List ℕ) → AreBytes v → IsText v (rest self.old) → Gives result v }
         ensures ends { EndsDecode self.old self.new no_limit result }
 
-        // The same in terms of `text v`, the encoding of v: the remaining bytes are the encoding of
-        // the result, and if they are the encoding of v, the result is v.
+        // The same by `text`.
         ensures text { IfOk result (λ v. rest self.old ≡ text v.items) }
         ensures one { WhereText (rest self.old) (λ v. IfOk result (λ w. w.items ≡ v)) }
         ensures given { WhereText (rest self.old) (λ v. Gives result v) }
@@ -77,11 +82,10 @@ impl<'a> Octets<'a> {
         // The result is `Ok` if and only if the remaining bytes are the encoding of a value within
         // the limit, unless an allocation failed.
         ensures value { IfOk result (λ v. IsAnswer (rest self.old) max_len v.items) }
-        ensures every { (v : List ℕ) → IsAnswer (rest self.old) max_len v → Gives result v }
+        ensures every { WhereAnswer (rest self.old) max_len (λ v. Gives result v) }
         ensures ends { EndsDecode self.old self.new max_len result }
 
-        // The same in terms of `text v`, the encoding of v: the remaining bytes are the encoding of
-        // the result, and if they are the encoding of v, the result is v and within the limit.
+        // The same by `text`.
         ensures text { IfOk result (λ v. rest self.old ≡ text v.items) }
         ensures one { WhereText (rest self.old) (λ v. IfOk result (λ w. w.items ≡ v)) }
         ensures limit { WhereText (rest self.old) (λ v. IfOk result (λ _. length v ≤ max_len)) }
@@ -116,11 +120,10 @@ impl<'a> Octets<'a> {
         // The result is `Ok` if and only if the remaining bytes are the encoding of a value within
         // the limit, unless an allocation failed.
         ensures value { IfOk result (λ v. IsAnswer (rest self.old) max_len v.items) }
-        ensures every { (v : List ℕ) → IsAnswer (rest self.old) max_len v → Gives result v }
+        ensures every { WhereAnswer (rest self.old) max_len (λ v. Gives result v) }
         ensures ends { EndsDecode self.old self.new max_len result }
 
-        // The same in terms of `text v`, the encoding of v: the remaining bytes are the encoding of
-        // the result, and if they are the encoding of v, the result is v and within the limit.
+        // The same by `text`.
         ensures text { IfOk result (λ v. rest self.old ≡ text v.items) }
         ensures one { WhereText (rest self.old) (λ v. IfOk result (λ w. w.items ≡ v)) }
         ensures limit { WhereText (rest self.old) (λ v. IfOk result (λ _. length v ≤ max_len)) }
@@ -167,15 +170,14 @@ impl<'a> Octets<'a> {
         // fits into `out`.
         ensures value { IfOk result (λ n. (v : List ℕ) × IsAnswer (rest self.old) (length out.old) v
             × (length v ≡ n) × (out.new ≡ v ++ drop n out.old)) }
-        ensures every { (v : List ℕ) → IsAnswer (rest self.old) (length out.old) v
-            → IsOkAnd result (λ n. (n ≡ length v) × (take n out.new ≡ v)) }
+        ensures every { WhereAnswer (rest self.old) (length out.old)
+            (λ v. IsOkAnd result (λ n. (n ≡ length v) × (take n out.new ≡ v))) }
         ensures shows { IfOk result
             (λ n. IsAnswer (rest self.old) (length out.old) (take n out.new)) }
         ensures few { IfOk result (λ n. n ≤ length out.old) }
         ensures behind { IfOk result (λ n. drop n out.new ≡ drop n out.old) }
 
-        // The same in terms of `text v`, the encoding of v: the remaining bytes are the encoding of
-        // what was written, and if they are the encoding of v, then v was written and fits.
+        // The same by `text`.
         ensures text { IfOk result (λ n. rest self.old ≡ text (take n out.new)) }
         ensures one { WhereText (rest self.old)
             (λ v. IfOk result (λ n. (n ≡ length v) × (take n out.new ≡ v))) }
