@@ -72,6 +72,8 @@ impl<B: Bytes> Cursor<B> {
     /// ```
     pub fn cap(&self) -> usize
         ensures remaining { result ≡ length (rest self.now) }
+
+        // So `off() + cap()` is `len()`, and no buffer has 2 to the power 63 bytes.
         ensures and_offset { position self.now + result ≡ length (bytes self.now) }
         ensures small { length (bytes self.now) < 2 ^ 63 }
     {

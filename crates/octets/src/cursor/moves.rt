@@ -43,11 +43,14 @@ impl<B: Bytes> Cursor<B> {
     pub fn rewind(&mut self, len: usize) -> Result<()>
         ensures fits { IsOk result ↔ (len ≤ position self.old) }
         ensures goes_back { OnOk result (Passes self.new self.old len) }
+        ensures refused { OnErr result (IsUnchanged self.old self.new) }
+
+        // The following clauses follow from those above. They say which bytes are now before the
+        // offset, and which remain.
         ensures stays_before { OnOk result
             (passed self.new ≡ take (position self.new) (passed self.old)) }
         ensures stands_again { OnOk result
             (rest self.new ≡ drop (position self.new) (passed self.old) ++ rest self.old) }
-        ensures refused { OnErr result (IsUnchanged self.old self.new) }
     {
         if self.off < len {
             return Err(BufferTooShortError);
@@ -67,9 +70,11 @@ impl<B: Bytes> Cursor<B> {
     pub fn skip(&mut self, skip: usize) -> Result<()>
         ensures fits { IsOk result ↔ (skip ≤ length (rest self.old)) }
         ensures passes { OnOk result (Passes self.old self.new skip) }
+        ensures refused { OnErr result (IsUnchanged self.old self.new) }
+
+        // This clause follows from `passes`. It says which bytes are now before the offset.
         ensures before { OnOk result
             (passed self.new ≡ passed self.old ++ take skip (rest self.old)) }
-        ensures refused { OnErr result (IsUnchanged self.old self.new) }
     {
         if skip > self.cap() {
             return Err(BufferTooShortError);

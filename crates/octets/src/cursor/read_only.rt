@@ -38,6 +38,8 @@ impl<'a> Octets<'a> {
     /// ```
     pub fn buf(&self) -> &'a [u8]
         ensures is { result.now ≡ bytes self.now }
+
+        // Each of them is below 256.
         ensures bytes { AreBytes (bytes self.now) }
     {
         known_bytes(self.buf)

@@ -34,6 +34,8 @@ impl<'a> OctetsMut<'a> {
     pub fn with_slice(buf: &'a mut [u8]) -> Self
         ensures bytes { bytes result ≡ buf.old }
         ensures start { position result ≡ 0 }
+
+        // The buffer is the slice of the caller, whose proof so knows what the cursor writes to it.
         ensures same_reference { reference result ≡ buf.entry.ghost_name }
     {
         Cursor { buf, off: 0 }
