@@ -35,6 +35,10 @@ pub record IsLiteral (b v : List ℕ) : Type 0 where
 unfoldable pub BeginsLiteral : List ℕ → ℕ → List ℕ → Type 0
 BeginsLiteral l k v = (k ≤ length l) × IsLiteral (take k l) v
 
+-- P holds of the length k and the value v of the literal with which l begins, if l begins with a literal
+abbrev pub WhereLiteral : List ℕ → (ℕ → List ℕ → Type 0) → Type 0
+WhereLiteral l P = (k : ℕ) (v : List ℕ) → BeginsLiteral l k v → P k v
+
 -- l begins with literals of the values vs, one after another, and r is what follows them
 unfoldable pub AreLiterals : List ℕ → List (List ℕ) → List ℕ → Type 0
 AreLiterals l [] r = l ≡ r

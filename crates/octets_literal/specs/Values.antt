@@ -2,9 +2,11 @@
 use Rattle.std.specs.Prelude.{◌≡◌, ◌++◌, ◌⊎◌, ℕ, ◌+◌, ◌<◌, ◌≤◌, Bool, true, false, List, drop, length}
 use Rattle.octets_code.specs.Texts.{AreBytes}
 use Rattle.octets.specs.Bytes.{part}
+use Rattle.octets.specs.Cursor.{rest, Passes}
+use Rattle.octets.specs.Octets.{Octets}
 use Rattle.octets.specs.Reading.{IsReadBefore}
 use Rattle.octets.specs.Stops.{IsStoppedBy}
-use Rattle.octets_literal.specs.Literals.{AreData}
+use Rattle.octets_literal.specs.Literals.{AreData, BeginsLiteral}
 use Rattle.octets_literal.specs.Faults.{BeginsLength, EndsInLength, HasLongLength, LacksData, HaveNoValue, NeedMemory}
 use Rattle.octets_literal.specs.declared.error.LiteralError.{LiteralError}
 use Rattle.octets_literal.specs.declared.error.LiteralError.TheVariants.{Short, Length, Value, OutOfMemory}
@@ -33,6 +35,16 @@ pub record IsValue (huffman : Bool) (d : List ℕ) (m : ℕ) (v : List ℕ) : Ty
   pub bytes : AreBytes v
   pub within : length v ≤ m
   pub are_data : AreData huffman d v
+
+-- the data d have a value of n bytes that fits into l, and l became k, which begins with this value
+abbrev pub WritesValue : Bool → List ℕ → List ℕ → List ℕ → ℕ → Type 0
+WritesValue huffman d l k n = (v : List ℕ) × IsValue huffman d (length l) v × (length v ≡ n) × (k ≡ v ++ drop n l)
+
+-- The remaining bytes begin with a literal of a value of n bytes, and the cursor has passed exactly this literal. The
+-- list l became k, which begins with the value.
+abbrev pub ReadsInto : Octets → Octets → List ℕ → List ℕ → ℕ → Type 0
+ReadsInto old new l k n = (j : ℕ) × (v : List ℕ) × BeginsLiteral (rest old) j v × (length v ≡ n)
+    × (k ≡ v ++ drop n l) × Passes old new j
 
 -- the data have no value, for the reason of this error
 unfoldable pub IsNoValue : Bool → List ℕ → ℕ → LiteralError → Type 0

@@ -2,7 +2,7 @@
 ghost use Rattle.std.specs.Prelude.{◌≡◌, ◌⊎◌, ℕ, ◌<◌, ◌≤◌, true, false, List};
 ghost use Rattle.std.specs.Prelude.{length, vec_len, IfOk, IfErr, OnOk, OnErr};
 ghost use Rattle.octets.specs.Cursor.{remaining, rest, Passes, IsUnchanged};
-ghost use Rattle.octets_literal.specs.Literals.{BeginsLiteral};
+ghost use Rattle.octets_literal.specs.Literals.{BeginsLiteral, WhereLiteral};
 ghost use Rattle.octets_literal.specs.Laws.{CanonBegins, CanonAlone};
 ghost use Rattle.octets_literal.specs.Faults.{IsRefused, GivesString};
 ghost use Rattle.octets_literal.specs.Values.{IsNoValue, IsValue};
@@ -33,14 +33,13 @@ pub fn get_string(
     // The result is `Ok` exactly if the rest begins with a literal of a value within the limit.
     ensures value { IfOk result (λ v. (k : ℕ) × BeginsLiteral (rest cursor.old) k v.items
         × (vec_len v ≤ max_len) × Passes cursor.old cursor.new k) }
-    ensures every { (k : ℕ) (v : List ℕ) → BeginsLiteral (rest cursor.old) k v
-        → length v ≤ max_len → GivesString result v }
+    ensures every { WhereLiteral (rest cursor.old)
+        (λ _ v. length v ≤ max_len → GivesString result v) }
 
     // A literal of v is read as v, and the offset moves past exactly this literal.
-    ensures one { (k : ℕ) (v : List ℕ) → BeginsLiteral (rest cursor.old) k v
-        → IfOk result (λ w. w.items ≡ v) }
-    ensures passes { (k : ℕ) (v : List ℕ) → BeginsLiteral (rest cursor.old) k v
-        → OnOk result (Passes cursor.old cursor.new k) }
+    ensures one { WhereLiteral (rest cursor.old) (λ _ v. IfOk result (λ w. w.items ≡ v)) }
+    ensures passes { WhereLiteral (rest cursor.old)
+        (λ k _. OnOk result (Passes cursor.old cursor.new k)) }
     ensures shorter { OnOk result (remaining cursor.new < remaining cursor.old) }
     ensures within { IfOk result (λ v. length v.items ≤ max_len) }
 
@@ -51,8 +50,8 @@ pub fn get_string(
     // The error is the first fault. `OutOfMemory` is returned only if memory is needed. A complete
     // literal fails only because of its value or because an allocation fails.
     ensures refused { IfErr result (IsRefused (rest cursor.old) max_len) }
-    ensures for_value { (k : ℕ) (v : List ℕ) → BeginsLiteral (rest cursor.old) k v
-        → IfErr result (λ why. (why ≡ Value) ⊎ (why ≡ OutOfMemory)) }
+    ensures for_value { WhereLiteral (rest cursor.old)
+        (λ _ _. IfErr result (λ why. (why ≡ Value) ⊎ (why ≡ OutOfMemory))) }
     ensures unchanged { OnErr result (IsUnchanged cursor.old cursor.new) }
 {
     read_string(alloc, cursor, max_len)

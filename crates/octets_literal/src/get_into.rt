@@ -3,10 +3,11 @@ ghost use Rattle.std.specs.Prelude.{◌≡◌, ◌≢◌, ℕ, ◌<◌, ◌≤�
 ghost use Rattle.std.specs.Prelude.{take, drop, IsOk, IfOk, IfErr, IfSome, IfNone, OnOk, OnErr};
 ghost use Rattle.std.specs.Prelude.{MatchResult};
 ghost use Rattle.octets.specs.Cursor.{remaining, rest, Passes, IsUnchanged};
-ghost use Rattle.octets_literal.specs.Literals.{BeginsLiteral};
+ghost use Rattle.octets_literal.specs.Literals.{WhereLiteral};
 ghost use Rattle.octets_literal.specs.Laws.{CanonBegins, CanonAlone};
 ghost use Rattle.octets_literal.specs.Faults.{HoldsData, IsRefused};
-ghost use Rattle.octets_literal.specs.Values.{IsFaultOf, IsNoValue, IsValue, LeavesRead};
+ghost use Rattle.octets_literal.specs.Values.{IsFaultOf, IsNoValue, LeavesRead};
+ghost use Rattle.octets_literal.specs.Values.{ReadsInto, WritesValue};
 ghost use Rattle.octets_literal.specs.declared.error.LiteralError.TheVariants.{Value, OutOfMemory};
 
 use crate::data::find_data;
@@ -30,18 +31,17 @@ use octets::Octets;
 #[tactic(auto, using(crate::proofs::Refusals::answers))]
 pub fn get_string_into(cursor: &mut Octets<'_>, out: &mut [u8]) -> Result<usize, LiteralError>
     // The result is `Ok` exactly if the rest begins with a literal of a value that fits into `out`.
-    ensures value { IfOk result (λ n. (k : ℕ) × (v : List ℕ) × BeginsLiteral (rest cursor.old) k v
-        × (length v ≡ n) × (out.new ≡ v ++ drop n out.old) × Passes cursor.old cursor.new k) }
-    ensures every { (k : ℕ) (v : List ℕ) → BeginsLiteral (rest cursor.old) k v
-        → length v ≤ length out.old → IsOk result }
+    ensures value { IfOk result (ReadsInto cursor.old cursor.new out.old out.new) }
+    ensures every { WhereLiteral (rest cursor.old)
+        (λ _ v. length v ≤ length out.old → IsOk result) }
     ensures within { IfOk result (λ n. n ≤ length out.old) }
     ensures behind { IfOk result (λ n. drop n out.new ≡ drop n out.old) }
 
     // A literal of v is read as v, and the offset moves past exactly this literal.
-    ensures one { (k : ℕ) (v : List ℕ) → BeginsLiteral (rest cursor.old) k v
-        → IfOk result (λ n. (n ≡ length v) × (take n out.new ≡ v)) }
-    ensures passes { (k : ℕ) (v : List ℕ) → BeginsLiteral (rest cursor.old) k v
-        → OnOk result (Passes cursor.old cursor.new k) }
+    ensures one { WhereLiteral (rest cursor.old)
+        (λ _ v. IfOk result (λ n. (n ≡ length v) × (take n out.new ≡ v))) }
+    ensures passes { WhereLiteral (rest cursor.old)
+        (λ k _. OnOk result (Passes cursor.old cursor.new k)) }
     ensures shorter { OnOk result (remaining cursor.new < remaining cursor.old) }
 
     // What is written for a value is a literal of the value, whether or not other bytes follow.
@@ -51,8 +51,8 @@ pub fn get_string_into(cursor: &mut Octets<'_>, out: &mut [u8]) -> Result<usize,
     // The error is the first fault. A complete literal fails only because of its value.
     ensures refused { IfErr result (IsRefused (rest cursor.old) (length out.old)) }
     ensures no_memory { IfErr result (λ why. why ≢ OutOfMemory) }
-    ensures for_value { (k : ℕ) (v : List ℕ) → BeginsLiteral (rest cursor.old) k v
-        → IfErr result (λ why. why ≡ Value) }
+    ensures for_value { WhereLiteral (rest cursor.old)
+        (λ _ _. IfErr result (λ why. why ≡ Value)) }
     ensures unchanged { OnErr result (IsUnchanged cursor.old cursor.new) }
 
     // After an error other than `Value`, `out` is unchanged. After `Value`, it may begin with what
@@ -80,12 +80,13 @@ pub fn read_string_into(
     out: &mut [u8],
     fault: &mut ValueError,
 ) -> Result<usize, LiteralError>
-    ensures value { IfOk result (λ n. (k : ℕ) × (v : List ℕ) × BeginsLiteral (rest cursor.old) k v
-        × (length v ≡ n) × (out.new ≡ v ++ drop n out.old) × Passes cursor.old cursor.new k) }
+    ensures value { IfOk result (ReadsInto cursor.old cursor.new out.old out.new) }
     ensures within { IfOk result (λ n. n ≤ length out.old) }
     ensures refused { IfErr result (IsRefused (rest cursor.old) (length out.old)) }
     ensures no_memory { IfErr result (λ why. why ≢ OutOfMemory) }
     ensures unchanged { OnErr result (IsUnchanged cursor.old cursor.new) }
+
+    // What an error leaves in `out`, and what it says in `fault`.
     ensures kept { IfErr result (λ why. why ≢ Value → out.new ≡ out.old) }
     ensures front { IfErr result (λ why. why ≡ Value → HoldsData (rest cursor.old)
         (λ huffman d. LeavesRead huffman d out.old out.new)) }
@@ -111,9 +112,7 @@ fn read_value_into(
     out: &mut [u8],
     fault: &mut ValueError,
 ) -> Option<usize>
-    ensures value { IfSome result (λ n. (v : List ℕ)
-        × IsValue huffman content.now (length out.old) v
-        × (length v ≡ n) × (out.new ≡ v ++ drop n out.old)) }
+    ensures value { IfSome result (WritesValue huffman content.now out.old out.new) }
     ensures none { IfNone result (IsNoValue huffman content.now (length out.old) Value) }
     ensures front { IfNone result (LeavesRead huffman content.now out.old out.new) }
     ensures fault { IfNone result (IsFaultOf fault.new huffman content.now out.old out.new) }
@@ -128,8 +127,7 @@ fn read_value_into(
 
 /// Writes the value of Huffman-encoded data into `out`.
 fn decoded_into(content: &[u8], out: &mut [u8], fault: &mut ValueError) -> Option<usize>
-    ensures value { IfSome result (λ n. (v : List ℕ) × IsValue true content.now (length out.old) v
-        × (length v ≡ n) × (out.new ≡ v ++ drop n out.old)) }
+    ensures value { IfSome result (WritesValue true content.now out.old out.new) }
     ensures none { IfNone result (IsNoValue true content.now (length out.old) Value) }
     ensures front { IfNone result (LeavesRead true content.now out.old out.new) }
     ensures fault { IfNone result (IsFaultOf fault.new true content.now out.old out.new) }
@@ -147,8 +145,7 @@ fn decoded_into(content: &[u8], out: &mut [u8], fault: &mut ValueError) -> Optio
 /// Copies the data, which are the value, into `out`.
 #[tactic(auto, using(crate::proofs::Values::values))]
 fn copied_into(content: &[u8], out: &mut [u8], fault: &mut ValueError) -> Option<usize>
-    ensures value { IfSome result (λ n. (v : List ℕ) × IsValue false content.now (length out.old) v
-        × (length v ≡ n) × (out.new ≡ v ++ drop n out.old)) }
+    ensures value { IfSome result (WritesValue false content.now out.old out.new) }
     ensures none { IfNone result (IsNoValue false content.now (length out.old) Value) }
     ensures front { IfNone result (LeavesRead false content.now out.old out.new) }
     ensures fault { IfNone result (IsFaultOf fault.new false content.now out.old out.new) }
