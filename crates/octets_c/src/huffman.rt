@@ -155,12 +155,16 @@ pub extern "C" fn octets_get_huffman_decoded(
         → IsAnswer (drop off.old bytes.now) (length out.old) v → result ≡ done }
     ensures within { result ≡ done → off.old ≤ length bytes.now }
     ensures few { result ≡ done → len.new ≤ length out.old }
+
+    // Which errors there are, and where the offset is after the call.
     ensures status { (result ≡ done) ⊎ (result ≡ short) ⊎ (result ≡ not_text)
         ⊎ (result ≡ no_room) }
     ensures short { (result ≡ short) ↔ (length bytes.now < off.old) }
     ensures passed { result ≡ done → off.new ≡ length bytes.now }
     ensures refused { result ≢ done → off.old ≤ length bytes.now → (n : ℕ)
         × IsRefusal (drop off.old bytes.now) (length out.old) n × (off.new ≡ off.old + n) }
+
+    // What an error leaves in `out`, and which number of bytes it stores in `len`.
     ensures front { result ≢ done → off.old ≤ length bytes.now → (v : List ℕ)
         × IsReadBefore v (drop off.old bytes.now) (length out.old)
         × (length v ≤ length out.old) × (out.new ≡ v ++ drop (length v) out.old) }

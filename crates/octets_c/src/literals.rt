@@ -59,6 +59,8 @@ pub extern "C" fn octets_get_string(
     ensures every { (k : ℕ) (v : List ℕ) → off.old ≤ length bytes.now
         → BeginsLiteral (drop off.old bytes.now) k v → length v ≤ length out.old → result ≡ done }
     ensures few { result ≡ done → len.new ≤ length out.old }
+
+    // Which errors there are, and when which is returned.
     ensures status { (result ≡ done) ⊎ (result ≡ short) ⊎ (result ≡ long)
         ⊎ (result ≡ not_text) ⊎ (result ≡ no_room) }
     ensures refused { result ≢ done → off.old ≤ length bytes.now
@@ -67,6 +69,8 @@ pub extern "C" fn octets_get_string(
         → BeginsLiteral (drop off.old bytes.now) k v
         → (result ≡ done) ⊎ (result ≡ not_text) ⊎ (result ≡ no_room) }
     ensures stays { result ≢ done → off.new ≡ off.old }
+
+    // What an error leaves in `out`, and which number of bytes it stores in `len`.
     ensures kept { (result ≡ short) ⊎ (result ≡ long) → (out.new ≡ out.old) × (len.new ≡ 0) }
     ensures front { (result ≡ not_text) ⊎ (result ≡ no_room) → HoldsData (drop off.old bytes.now)
         (λ huffman d. LeavesRead huffman d out.old out.new) }

@@ -77,9 +77,11 @@ fn next_word(place: &mut Place, value: &[u8], to_lower: bool) -> Option<u64>
     None
 }
 
-/// Returns how many bytes the next piece has, where `count` bits remained at the end and `given` of
-/// their bytes were given: 0 if all were given, four if none was given and there are as many, and
-/// otherwise one.
+/// Returns how many bytes the next piece of the last bytes has, or 0 if none is left. The last bytes
+/// are those that `count` bits need, and `given` of them were given before.
+///
+/// These are the pieces of `octets_put_huffman_encoded`: one of four bytes, if there are as many,
+/// and then single bytes. Once the first piece was given, each further one is a single byte.
 #[tactic(auto, using(crate::proofs::Places::pieces), unfolding(crate::specs::Pieces::next_of))]
 fn next_len(count: u32, given: u32) -> usize
     requires { count < 64 }
@@ -173,6 +175,9 @@ pub extern "C" fn octets_next_piece(
     ensures ends { result ≡ done
         → (len.new ≡ 0) ↔ (text_left lower_case value.now place.old ≡ []) }
     ensures goes_on { result ≡ done → CanBePlace value.now place.new }
+
+    // From the start on, the pieces together are the encoding, in the pieces in which
+    // `octets_put_huffman_encoded` writes it. After an error nothing has changed.
     ensures starts { IsStart place.old → (result ≡ done)
         × (text_left lower_case value.now place.old ≡ text_of lower_case value.now)
         × (pieces_left lower_case value.now place.old ≡ pieces (cased lower_case value.now)) }

@@ -5,6 +5,13 @@
 //! An exported function gets all bytes of a buffer and an offset into them, which it moves as a
 //! cursor would. A slice is passed as a pointer and then a length. No function keeps anything after
 //! the call, and none allocates memory.
+//!
+//! Each function that reads or writes at an offset calls one function of `octets` or
+//! `octets_literal`; only `octets_put_bytes_with_varint_length` calls two. It returns
+//! `OCTETS_DONE` exactly if the offset isn't past the end of the buffer, the arguments meet the
+//! preconditions of the called function, and this function returns `Ok`. The clause `status` lists
+//! all statuses of a call, and other clauses say when it returns which. After an error a call has
+//! changed only what its clauses name.
 #![cfg_attr(not(test), no_std)]
 #![allow(clippy::all, missing_docs, unstable_name_collisions, unused)]
 #![forbid(unsafe_code)]
