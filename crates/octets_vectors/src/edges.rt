@@ -34,6 +34,7 @@ pub fn put_greatest<'a>(cursor: &'a mut OctetsMut<'_>) -> Result<&'a mut [u8]>
     ensures* writes_back { sem 𝓛 (LendsPut cursor.entry (varint 8 4611686018427387903) 8 result) }
     ensures fits { IsOk result ↔ (8 ≤ length (rest cursor.old)) }
     ensures shows { IfOk result (λ lent. lent.now ≡ varint 8 4611686018427387903) }
+// The proof is hand-written, so any edit of the body breaks it: see CONTRIBUTING.md.
 {
     cursor.put_varint(MAX_VAR_INT)
 }
@@ -51,6 +52,7 @@ pub fn put_greatest_in_one<'a>(cursor: &'a mut OctetsMut<'_>) -> Result<&'a mut 
     ensures* writes_back { sem 𝓛 (LendsPut cursor.entry (varint 1 63) 1 result) }
     ensures fits { IsOk result ↔ (1 ≤ length (rest cursor.old)) }
     ensures shows { IfOk result (λ lent. lent.now ≡ varint 1 63) }
+// The proof is hand-written, so any edit of the body breaks it: see CONTRIBUTING.md.
 {
     cursor.put_varint_with_len(63, 1)
 }

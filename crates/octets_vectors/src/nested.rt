@@ -43,6 +43,7 @@ pub fn put_in_view(cursor: &mut OctetsMut<'_>, len: usize, b: u8) -> Result<()>
     ensures position { IfOk result (λ _. position cursor.new ≡ position cursor.old + len) }
     ensures unchanged { OnErr result (IsUnchanged cursor.old cursor.new) }
     ensures same_reference { reference cursor.new ≡ reference cursor.old }
+// The proof is hand-written, so any edit of the body breaks it: see CONTRIBUTING.md.
 {
     was_lent(put_first(cursor.get_bytes_mut(len), b))
 }
@@ -82,6 +83,7 @@ pub fn put_in_view_of_view(
     ensures position { IfOk result (λ _. position cursor.new ≡ position cursor.old + outer) }
     ensures unchanged { OnErr result (IsUnchanged cursor.old cursor.new) }
     ensures same_reference { reference cursor.new ≡ reference cursor.old }
+// The proof is hand-written, so any edit of the body breaks it: see CONTRIBUTING.md.
 {
     was_lent(put_within(cursor.get_bytes_mut(outer), inner, b))
 }

@@ -43,6 +43,7 @@ pub(crate) fn over_halves(
     ensures position { position cursor.new ≡ position cursor.old }
     ensures unchanged { OnErr result (IsUnchanged cursor.old cursor.new) }
     ensures same_reference { reference cursor.new ≡ reference cursor.old }
+// The proof is hand-written, so any edit of the body breaks it: see CONTRIBUTING.md.
 {
     match over_both(cursor.split_at(off), left, right) {
         Ok(_) => Ok(()),

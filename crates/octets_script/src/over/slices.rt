@@ -40,6 +40,7 @@ pub(crate) fn over_slice(cursor: &mut OctetsMut<'_>, len: usize, w: &[u8]) -> Re
     ensures position { IfOk result (λ _. position cursor.new ≡ position cursor.old) }
     ensures unchanged { OnErr result (IsUnchanged cursor.old cursor.new) }
     ensures same_reference { reference cursor.new ≡ reference cursor.old }
+// The proof is hand-written, so any edit of the body breaks it: see CONTRIBUTING.md.
 {
     over_part(cursor.slice(len), w)
 }
@@ -53,6 +54,7 @@ pub(crate) fn over_last(cursor: &mut OctetsMut<'_>, len: usize, w: &[u8]) -> Res
     ensures position { IfOk result (λ _. position cursor.new ≡ position cursor.old) }
     ensures unchanged { OnErr result (IsUnchanged cursor.old cursor.new) }
     ensures same_reference { reference cursor.new ≡ reference cursor.old }
+// The proof is hand-written, so any edit of the body breaks it: see CONTRIBUTING.md.
 {
     over_part(cursor.slice_last(len), w)
 }
@@ -66,6 +68,7 @@ pub(crate) fn put_u8_then_overwrite(cursor: &mut OctetsMut<'_>, v: u8, w: &[u8])
     ensures position { IfOk result (λ _. position cursor.new ≡ position cursor.old + 1) }
     ensures unchanged { OnErr result (IsUnchanged cursor.old cursor.new) }
     ensures same_reference { reference cursor.new ≡ reference cursor.old }
+// The proof is hand-written, so any edit of the body breaks it: see CONTRIBUTING.md.
 {
     over_part(cursor.put_u8(v), w)
 }
@@ -79,6 +82,7 @@ pub(crate) fn put_u16_then_overwrite(cursor: &mut OctetsMut<'_>, v: u16, w: &[u8
     ensures position { IfOk result (λ _. position cursor.new ≡ position cursor.old + 2) }
     ensures unchanged { OnErr result (IsUnchanged cursor.old cursor.new) }
     ensures same_reference { reference cursor.new ≡ reference cursor.old }
+// The proof is hand-written, so any edit of the body breaks it: see CONTRIBUTING.md.
 {
     over_part(cursor.put_u16(v), w)
 }
@@ -92,6 +96,7 @@ pub(crate) fn put_u24_then_overwrite(cursor: &mut OctetsMut<'_>, v: u32, w: &[u8
     ensures position { IfOk result (λ _. position cursor.new ≡ position cursor.old + 3) }
     ensures unchanged { OnErr result (IsUnchanged cursor.old cursor.new) }
     ensures same_reference { reference cursor.new ≡ reference cursor.old }
+// The proof is hand-written, so any edit of the body breaks it: see CONTRIBUTING.md.
 {
     over_part(cursor.put_u24(v), w)
 }
@@ -105,6 +110,7 @@ pub(crate) fn put_u32_then_overwrite(cursor: &mut OctetsMut<'_>, v: u32, w: &[u8
     ensures position { IfOk result (λ _. position cursor.new ≡ position cursor.old + 4) }
     ensures unchanged { OnErr result (IsUnchanged cursor.old cursor.new) }
     ensures same_reference { reference cursor.new ≡ reference cursor.old }
+// The proof is hand-written, so any edit of the body breaks it: see CONTRIBUTING.md.
 {
     over_part(cursor.put_u32(v), w)
 }
@@ -118,6 +124,7 @@ pub(crate) fn put_u64_then_overwrite(cursor: &mut OctetsMut<'_>, v: u64, w: &[u8
     ensures position { IfOk result (λ _. position cursor.new ≡ position cursor.old + 8) }
     ensures unchanged { OnErr result (IsUnchanged cursor.old cursor.new) }
     ensures same_reference { reference cursor.new ≡ reference cursor.old }
+// The proof is hand-written, so any edit of the body breaks it: see CONTRIBUTING.md.
 {
     over_part(cursor.put_u64(v), w)
 }
@@ -132,6 +139,7 @@ pub(crate) fn put_varint_then_overwrite(cursor: &mut OctetsMut<'_>, v: u64, w: &
     ensures position { IfOk result (λ _. position cursor.new ≡ position cursor.old + shortest v) }
     ensures unchanged { OnErr result (IsUnchanged cursor.old cursor.new) }
     ensures same_reference { reference cursor.new ≡ reference cursor.old }
+// The proof is hand-written, so any edit of the body breaks it: see CONTRIBUTING.md.
 {
     over_part(cursor.put_varint(v), w)
 }
@@ -152,6 +160,7 @@ pub(crate) fn put_wide_then_overwrite(
     ensures position { IfOk result (λ _. position cursor.new ≡ position cursor.old + len) }
     ensures unchanged { OnErr result (IsUnchanged cursor.old cursor.new) }
     ensures same_reference { reference cursor.new ≡ reference cursor.old }
+// The proof is hand-written, so any edit of the body breaks it: see CONTRIBUTING.md.
 {
     over_part(cursor.put_varint_with_len(v, len), w)
 }

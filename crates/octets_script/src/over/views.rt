@@ -27,6 +27,7 @@ fn next_slice<'a>(cursor: &'a mut OctetsMut<'_>, len: usize) -> Result<&'a mut [
         (position cursor.old) (position cursor.old + len) result) }
     ensures fits { IsOk result ↔ (len ≤ length (rest cursor.old)) }
     ensures shows { IfOk result (λ r. r.now ≡ take len (rest cursor.old)) }
+// The proof is hand-written, so any edit of the body breaks it: see CONTRIBUTING.md.
 {
     slice_of(cursor.get_bytes_mut(len))
 }
@@ -37,6 +38,7 @@ fn peeked_slice<'a>(cursor: &'a mut OctetsMut<'_>, len: usize) -> Result<&'a mut
         (position cursor.old) (position cursor.old) result) }
     ensures fits { IsOk result ↔ (len ≤ length (rest cursor.old)) }
     ensures shows { IfOk result (λ r. r.now ≡ take len (rest cursor.old)) }
+// The proof is hand-written, so any edit of the body breaks it: see CONTRIBUTING.md.
 {
     slice_of(cursor.peek_bytes_mut(len))
 }
@@ -50,6 +52,7 @@ pub(crate) fn over_next(cursor: &mut OctetsMut<'_>, len: usize, w: &[u8]) -> Res
     ensures position { IfOk result (λ _. position cursor.new ≡ position cursor.old + len) }
     ensures unchanged { OnErr result (IsUnchanged cursor.old cursor.new) }
     ensures same_reference { reference cursor.new ≡ reference cursor.old }
+// The proof is hand-written, so any edit of the body breaks it: see CONTRIBUTING.md.
 {
     over_part(next_slice(cursor, len), w)
 }
@@ -63,6 +66,7 @@ pub(crate) fn over_peeked(cursor: &mut OctetsMut<'_>, len: usize, w: &[u8]) -> R
     ensures position { IfOk result (λ _. position cursor.new ≡ position cursor.old) }
     ensures unchanged { OnErr result (IsUnchanged cursor.old cursor.new) }
     ensures same_reference { reference cursor.new ≡ reference cursor.old }
+// The proof is hand-written, so any edit of the body breaks it: see CONTRIBUTING.md.
 {
     over_part(peeked_slice(cursor, len), w)
 }

@@ -48,6 +48,7 @@ fn put_as_lent(cursor: &mut OctetsMut<'_>, v: u64) -> Result<()>
     ensures writes { IfOk result (λ _. Writes cursor.old cursor.new (varint (shortest v) v)) }
     ensures past { IfOk result (λ _. position cursor.new ≡ position cursor.old + shortest v) }
     ensures unchanged { OnErr result (IsUnchanged cursor.old cursor.new) }
+// The proof is hand-written, so any edit of the body breaks it: see CONTRIBUTING.md.
 {
     was_lent(cursor.put_varint(v))
 }

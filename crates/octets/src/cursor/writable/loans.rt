@@ -63,6 +63,7 @@ impl<'a> OctetsMut<'a> {
             (from_of part) (position self.old) result) }
         ensures fits { IsOk result ↔ IsOk part }
         ensures shows { IfOk result (λ r. r.now ≡ the_part part (bytes self.old)) }
+    // The proof is hand-written, so any edit of the body breaks it: see CONTRIBUTING.md.
     {
         match part {
             Ok(part) => Ok(self.lend_at(part.from, part.len)),
@@ -77,6 +78,7 @@ impl<'a> OctetsMut<'a> {
             (from_of part) (position self.old) result) }
         ensures fits { IsOk result ↔ IsOk part }
         ensures shows { IfOk result (λ v. IsViewOf (the_part part (bytes self.old)) v) }
+    // The proof is hand-written, so any edit of the body breaks it: see CONTRIBUTING.md.
     {
         view_of(self.lend_part(part))
     }
@@ -96,6 +98,7 @@ impl<'a> OctetsMut<'a> {
             (position self.old) (position self.old) result) }
         ensures fits { IsOk result ↔ (len ≤ length (rest self.old)) }
         ensures shows { IfOk result (λ r. r.now ≡ take len (rest self.old)) }
+    // The proof is hand-written, so any edit of the body breaks it: see CONTRIBUTING.md.
     {
         let part = self.part_ahead(len);
         self.lend_part(part)
@@ -119,6 +122,7 @@ impl<'a> OctetsMut<'a> {
         ensures fits { IsOk result ↔ (len ≤ length (rest self.old)) }
         ensures shows { IfOk result
             (λ r. r.now ≡ drop (length (bytes self.old) - len) (bytes self.old)) }
+    // The proof is hand-written, so any edit of the body breaks it: see CONTRIBUTING.md.
     {
         let part = self.part_at_end(len);
         self.lend_part(part)
@@ -141,6 +145,7 @@ impl<'a> OctetsMut<'a> {
             (position self.old) (position self.old + len) result) }
         ensures fits { IsOk result ↔ (len ≤ length (rest self.old)) }
         ensures shows { IfOk result (λ v. IsViewOf (take len (rest self.old)) v) }
+    // The proof is hand-written, so any edit of the body breaks it: see CONTRIBUTING.md.
     {
         let part = self.part_passed(len);
         self.lend_view(part)
@@ -162,6 +167,7 @@ impl<'a> OctetsMut<'a> {
             (position self.old) (position self.old) result) }
         ensures fits { IsOk result ↔ (len ≤ length (rest self.old)) }
         ensures shows { IfOk result (λ v. IsViewOf (take len (rest self.old)) v) }
+    // The proof is hand-written, so any edit of the body breaks it: see CONTRIBUTING.md.
     {
         let ahead = self.part_ahead(len);
         self.lend_view(ahead)
@@ -186,6 +192,7 @@ impl<'a> OctetsMut<'a> {
         ensures shows { IfOk result
             (λ v. IsViewOf (take off (bytes self.old)) v.0
             × IsViewOf (drop off (bytes self.old)) v.1) }
+    // The proof is hand-written, so any edit of the body breaks it: see CONTRIBUTING.md.
     {
         let parts = halves(&mut *self.buf, off);
         views_of(parts)
@@ -205,6 +212,7 @@ impl<'a> OctetsMut<'a> {
         ensures* writes_back { sem 𝓛 (LendsPut self.entry (network 1 v) 1 result) }
         ensures fits { IsOk result ↔ (1 ≤ length (rest self.old)) }
         ensures shows { IfOk result (λ r. r.now ≡ network 1 v) }
+    // The proof is hand-written, so any edit of the body breaks it: see CONTRIBUTING.md.
     {
         let part = self.part_of_u8(v);
         self.lend_part(part)
@@ -225,6 +233,7 @@ impl<'a> OctetsMut<'a> {
         ensures* writes_back { sem 𝓛 (LendsPut self.entry (network 2 v) 2 result) }
         ensures fits { IsOk result ↔ (2 ≤ length (rest self.old)) }
         ensures shows { IfOk result (λ r. r.now ≡ network 2 v) }
+    // The proof is hand-written, so any edit of the body breaks it: see CONTRIBUTING.md.
     {
         let part = self.part_of_u16(v);
         self.lend_part(part)
@@ -245,6 +254,7 @@ impl<'a> OctetsMut<'a> {
         ensures* writes_back { sem 𝓛 (LendsPut self.entry (network 3 v) 3 result) }
         ensures fits { IsOk result ↔ (3 ≤ length (rest self.old)) }
         ensures shows { IfOk result (λ r. r.now ≡ network 3 v) }
+    // The proof is hand-written, so any edit of the body breaks it: see CONTRIBUTING.md.
     {
         let part = self.part_of_u24(v);
         self.lend_part(part)
@@ -265,6 +275,7 @@ impl<'a> OctetsMut<'a> {
         ensures* writes_back { sem 𝓛 (LendsPut self.entry (network 4 v) 4 result) }
         ensures fits { IsOk result ↔ (4 ≤ length (rest self.old)) }
         ensures shows { IfOk result (λ r. r.now ≡ network 4 v) }
+    // The proof is hand-written, so any edit of the body breaks it: see CONTRIBUTING.md.
     {
         let part = self.part_of_u32(v);
         self.lend_part(part)
@@ -285,6 +296,7 @@ impl<'a> OctetsMut<'a> {
         ensures* writes_back { sem 𝓛 (LendsPut self.entry (network 8 v) 8 result) }
         ensures fits { IsOk result ↔ (8 ≤ length (rest self.old)) }
         ensures shows { IfOk result (λ r. r.now ≡ network 8 v) }
+    // The proof is hand-written, so any edit of the body breaks it: see CONTRIBUTING.md.
     {
         let part = self.part_of_u64(v);
         self.lend_part(part)
@@ -307,6 +319,7 @@ impl<'a> OctetsMut<'a> {
             (LendsPut self.entry (varint (shortest v) v) (shortest v) result) }
         ensures fits { IsOk result ↔ (shortest v ≤ length (rest self.old)) }
         ensures shows { IfOk result (λ r. r.now ≡ varint (shortest v) v) }
+    // The proof is hand-written, so any edit of the body breaks it: see CONTRIBUTING.md.
     {
         let part = self.part_of_varint(v);
         self.lend_part(part)
@@ -330,6 +343,7 @@ impl<'a> OctetsMut<'a> {
         ensures* writes_back { sem 𝓛 (LendsPut self.entry (varint len v) len result) }
         ensures fits { IsOk result ↔ (len ≤ length (rest self.old)) }
         ensures shows { IfOk result (λ r. r.now ≡ varint len v) }
+    // The proof is hand-written, so any edit of the body breaks it: see CONTRIBUTING.md.
     {
         let part = self.part_of_varint_with_len(v, len);
         self.lend_part(part)

@@ -69,6 +69,7 @@ impl<'a> Bytes for &'a mut [u8] {
 }
 
 impl<'a> Buffer for &'a mut [u8] {
+    // The proof is hand-written, so any edit of the body breaks it: see CONTRIBUTING.md.
     #[inline]
     fn part_mut(&mut self, from: usize, len: usize) -> &mut [u8] {
         &mut self[from..][..len]

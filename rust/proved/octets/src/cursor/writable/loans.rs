@@ -46,7 +46,8 @@ impl<'a> OctetsMut<'a> {
     ///
     /// - `IfOk part (λ p. IsWithin p (bytes self.old))`
     #[inline]
-    fn lend_part(&mut self, part: Result<Part>) -> Result<&mut [u8]> {
+    fn lend_part(&mut self, part: Result<Part>) -> Result<&mut [u8]>// The proof is hand-written, so any edit of the body breaks it: see CONTRIBUTING.md.
+    {
         match part {
             Ok(part) => Ok(self.lend_at(part.from, part.len)),
             Err(short) => Err(short),
@@ -59,7 +60,8 @@ impl<'a> OctetsMut<'a> {
     ///
     /// - `IfOk part (λ p. IsWithin p (bytes self.old))`
     #[inline]
-    fn lend_view(&mut self, part: Result<Part>) -> Result<OctetsMut<'_>> {
+    fn lend_view(&mut self, part: Result<Part>) -> Result<OctetsMut<'_>>// The proof is hand-written, so any edit of the body breaks it: see CONTRIBUTING.md.
+    {
         view_of(self.lend_part(part))
     }
 
@@ -74,7 +76,8 @@ impl<'a> OctetsMut<'a> {
     /// assert_eq!(cursor.get_u8()?, 9);
     /// ```
     #[inline]
-    pub fn slice(&mut self, len: usize) -> Result<&mut [u8]> {
+    pub fn slice(&mut self, len: usize) -> Result<&mut [u8]>// The proof is hand-written, so any edit of the body breaks it: see CONTRIBUTING.md.
+    {
         let part = self.part_ahead(len);
         self.lend_part(part)
     }
@@ -92,7 +95,8 @@ impl<'a> OctetsMut<'a> {
     /// assert!(cursor.buf() == [1, 2, 9].as_slice());
     /// ```
     #[inline]
-    pub fn slice_last(&mut self, len: usize) -> Result<&mut [u8]> {
+    pub fn slice_last(&mut self, len: usize) -> Result<&mut [u8]>// The proof is hand-written, so any edit of the body breaks it: see CONTRIBUTING.md.
+    {
         let part = self.part_at_end(len);
         self.lend_part(part)
     }
@@ -110,7 +114,8 @@ impl<'a> OctetsMut<'a> {
     /// assert_eq!(cursor.off(), 2);
     /// ```
     #[inline]
-    pub fn get_bytes_mut(&mut self, len: usize) -> Result<OctetsMut<'_>> {
+    pub fn get_bytes_mut(&mut self, len: usize) -> Result<OctetsMut<'_>>// The proof is hand-written, so any edit of the body breaks it: see CONTRIBUTING.md.
+    {
         let part = self.part_passed(len);
         self.lend_view(part)
     }
@@ -127,7 +132,8 @@ impl<'a> OctetsMut<'a> {
     /// assert_eq!(cursor.get_u16()?, 258);
     /// ```
     #[inline]
-    pub fn peek_bytes_mut(&mut self, len: usize) -> Result<OctetsMut<'_>> {
+    pub fn peek_bytes_mut(&mut self, len: usize) -> Result<OctetsMut<'_>>// The proof is hand-written, so any edit of the body breaks it: see CONTRIBUTING.md.
+    {
         let ahead = self.part_ahead(len);
         self.lend_view(ahead)
     }
@@ -146,7 +152,8 @@ impl<'a> OctetsMut<'a> {
     /// assert_eq!(right.len(), 2);
     /// ```
     #[inline]
-    pub fn split_at(&mut self, off: usize) -> Result<(OctetsMut<'_>, OctetsMut<'_>)> {
+    pub fn split_at(&mut self, off: usize) -> Result<(OctetsMut<'_>, OctetsMut<'_>)>// The proof is hand-written, so any edit of the body breaks it: see CONTRIBUTING.md.
+    {
         let parts = halves(&mut *self.buf, off);
         views_of(parts)
     }
@@ -162,7 +169,8 @@ impl<'a> OctetsMut<'a> {
     /// assert!(cursor.buf() == [7, 0].as_slice());
     /// ```
     #[inline]
-    pub fn put_u8(&mut self, v: u8) -> Result<&mut [u8]> {
+    pub fn put_u8(&mut self, v: u8) -> Result<&mut [u8]>// The proof is hand-written, so any edit of the body breaks it: see CONTRIBUTING.md.
+    {
         let part = self.part_of_u8(v);
         self.lend_part(part)
     }
@@ -179,7 +187,8 @@ impl<'a> OctetsMut<'a> {
     /// assert!(cursor.buf() == [1, 9, 0].as_slice());
     /// ```
     #[inline]
-    pub fn put_u16(&mut self, v: u16) -> Result<&mut [u8]> {
+    pub fn put_u16(&mut self, v: u16) -> Result<&mut [u8]>// The proof is hand-written, so any edit of the body breaks it: see CONTRIBUTING.md.
+    {
         let part = self.part_of_u16(v);
         self.lend_part(part)
     }
@@ -196,7 +205,8 @@ impl<'a> OctetsMut<'a> {
     /// assert!(cursor.buf() == [1, 2, 3].as_slice());
     /// ```
     #[inline]
-    pub fn put_u24(&mut self, v: u32) -> Result<&mut [u8]> {
+    pub fn put_u24(&mut self, v: u32) -> Result<&mut [u8]>// The proof is hand-written, so any edit of the body breaks it: see CONTRIBUTING.md.
+    {
         let part = self.part_of_u24(v);
         self.lend_part(part)
     }
@@ -213,7 +223,8 @@ impl<'a> OctetsMut<'a> {
     /// assert!(cursor.buf() == [1, 2, 3, 4].as_slice());
     /// ```
     #[inline]
-    pub fn put_u32(&mut self, v: u32) -> Result<&mut [u8]> {
+    pub fn put_u32(&mut self, v: u32) -> Result<&mut [u8]>// The proof is hand-written, so any edit of the body breaks it: see CONTRIBUTING.md.
+    {
         let part = self.part_of_u32(v);
         self.lend_part(part)
     }
@@ -230,7 +241,8 @@ impl<'a> OctetsMut<'a> {
     /// assert!(cursor.buf() == [0, 0, 0, 0, 0, 0, 1, 2].as_slice());
     /// ```
     #[inline]
-    pub fn put_u64(&mut self, v: u64) -> Result<&mut [u8]> {
+    pub fn put_u64(&mut self, v: u64) -> Result<&mut [u8]>// The proof is hand-written, so any edit of the body breaks it: see CONTRIBUTING.md.
+    {
         let part = self.part_of_u64(v);
         self.lend_part(part)
     }
@@ -252,7 +264,8 @@ impl<'a> OctetsMut<'a> {
     /// - `v < 2 ^ 62`
     #[inline]
     #[cfg_attr(feature = "checked", track_caller)]
-    pub fn put_varint(&mut self, v: u64) -> Result<&mut [u8]> {
+    pub fn put_varint(&mut self, v: u64) -> Result<&mut [u8]>// The proof is hand-written, so any edit of the body breaks it: see CONTRIBUTING.md.
+    {
         #[cfg(feature = "checked")]
         ::core::assert!((v as u128) < (1u128 << 62), "`put_varint` requires `v < 2 ^ 62`");
         let part = self.part_of_varint(v);
@@ -278,7 +291,8 @@ impl<'a> OctetsMut<'a> {
     /// - `v < 2 ^ (8 * len - 2)`
     #[inline]
     #[cfg_attr(feature = "checked", track_caller)]
-    pub fn put_varint_with_len(&mut self, v: u64, len: usize) -> Result<&mut [u8]> {
+    pub fn put_varint_with_len(&mut self, v: u64, len: usize) -> Result<&mut [u8]>// The proof is hand-written, so any edit of the body breaks it: see CONTRIBUTING.md.
+    {
         #[cfg(feature = "checked")]
         ::core::assert!(matches!(len, 1 | 2 | 4 | 8), "`put_varint_with_len` requires `IsWidth len`");
         #[cfg(feature = "checked")]
