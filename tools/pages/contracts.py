@@ -1,46 +1,44 @@
-"""The page CONTRACTS.md of a crate: what it promises in words, out of tools/pages/promised, and every public call with its
-doc line and its clauses, out of `src/`. It also finds the clauses that have no words there, nor in docs/PROOFS.md. The last
-part of the file `promised` lists those that need none.
+"""The page CONTRACTS.md of a crate: every public call with its description and its clauses, out of `src/`. The description of
+a call, or a comment above some of its clauses, says in words what the clauses state. The module also finds clauses without
+words.
 
 make imports it.
 """
 import pathlib
 import re
+from typing import NamedTuple
 
 TOP = pathlib.Path(__file__).resolve().parents[2]
-# The tables that state promises.
-TABLE = re.compile(r"^\| (?:Claim|Promise) \| Clauses.*\n\|-.*\n((?:\|.*\n)*)", re.M)
 # The crates that have the page.
 CRATES = ("octets_code", "octets", "octets_literal", "octets_script", "octets_c")
-# No Rattle code calls this one, so its page has the promises alone.
-FOR_C = "octets_c"
-PROMISED = pathlib.Path(__file__).with_name("promised")
+# So many clauses `ensures` may share their words.
+MOST = 8
 HEAD = """# Contracts of `{0}`
 
-Each public call, what it does, and its clauses, as they are in `src/`. `tools/pages/make` writes this page; [CALLING.md](../octets/CALLING.md#the-picture) says how to read it, and [WORDS.md](../../docs/WORDS.md) what the definitions mean.
-`S` is what `self` points to at the call, and `S'` at the return. A starred clause says what a loan leaves once it ends.
-`as X` says that the clauses are word for word those of the method X, over this cursor.
-"""
-FOR_C_HEAD = """# Contracts of `octets_c`
+Each public call, its description, and its clauses, as they are in `src/`. `tools/pages/make` writes this page; [CALLING.md](../octets/CALLING.md#the-picture) says how to read a clause, [WORDS.md](../../docs/WORDS.md) what the definitions mean, and the [glossary](../../docs/DEFINITIONS.md#terms) what a loan or a sink is.
 
-What is proved of the functions of `octets.h`. `tools/pages/make` writes this page. The clauses are in `src/`; [CALLING.md](../octets/CALLING.md#the-picture) says how to read them, and [WORDS.md](../../docs/WORDS.md) what the definitions mean.
+- The description of a call says in words what the clauses directly below it state. A line with `//` does so for the clauses below it.
+- `S` is what `self` points to at the call, and `S'` at the return. A starred clause says what a loan leaves once it ends.
+- `as X` says that the description and all clauses are word for word those of the method X, over this cursor. `fits, view as X` says so of the description and of these two.
 
-"""
-WORDS = """## In words
-
-Each line states a promise in words, and then names the clauses that state it formally. *Exactly if* means "if and only if". A *sink* takes bytes: it is a type with the trait `OctetsWriter`. A call *lends* bytes if it returns a mutable borrow of them, and a *loan* is such a borrow. In a cell, entries are separated by semicolons:
-
-- `f: a, b` are the clauses `a` and `b` of the function `f`. Functions before one colon share the clauses after it, and an entry without a colon means all clauses.
-- A prefix such as `laws::` or `State::` also applies to the names after it, until a name has a prefix of its own.
-- `write_..` is every function whose name begins with `write_`; some have only one of several clauses. `get_u8` to `get_u64` are those of all widths.
-
-| Promise | Clauses |
-|---|---|
+{1}
 """
 CLAUSE = re.compile(r"\s*(requires|ensures\*?)\b")
 PUBLIC = re.compile(r"pub (extern \"C\" )?(fn|const|struct|enum|type)\b")
 HIDDEN = {"Store", "Target"}  # traits that callers don't see
 TOLD = {"fmt", "From"}  # traits whose impls say by a ghost member what they do
+
+
+class Item(NamedTuple):
+    """A public item of a source file."""
+
+    name: str
+    signature: str
+    doc: list  # its paragraphs without the example, and of a type the public fields or the variants with theirs
+    groups: list = []  # (the comment above the clauses, or "", and the clauses)
+
+    def clauses(self):
+        return [clause for _, clauses in self.groups for clause in clauses]
 
 
 def tidy(text):
@@ -51,9 +49,10 @@ def tidy(text):
     return text.replace("( ", "(").replace(", )", ")").replace("std::result::Result<", "Result<")
 
 
-def first(lines):
-    """The first sentence."""
-    return re.split(r"(?<=\.) ", " ".join(lines))[0]
+def paragraphs(lines):
+    """The paragraphs and the points of a doc comment before its example, without links."""
+    text = re.sub(r"\[(`[^`]*`)\](?:\([^)]*\))?", r"\1", "\n".join(lines).partition("```")[0])
+    return [" ".join(it.split()) for it in re.split(r"\n\n|\n(?=- )", text.strip()) if it]
 
 
 def statement(lines, at):
@@ -69,22 +68,40 @@ def statement(lines, at):
     return text.strip(), at
 
 
-def clauses_at(lines, at):
-    """The clauses that begin at line `at`, with comments between them, and the line after them."""
-    found, behind = [], at
+def members_at(lines, at):
+    """The public fields or the variants from line `at` on that have a description, each with it."""
+    doc, is_enum = [], lines[at - 1].startswith("pub enum")
+    while at < len(lines) and not lines[at].startswith("}"):
+        line = lines[at].strip()
+        if line.startswith("///"):
+            doc.append(line[3:].strip())
+        else:
+            if doc and (is_enum or line.startswith("pub ")):
+                yield f"{line.removeprefix('pub ').rstrip(',')}: {' '.join(paragraphs(doc))}"
+            doc = []
+        at += 1
+
+
+def groups_at(lines, at):
+    """The groups of clauses that begin at line `at`, and the line after them."""
+    found, words, behind = [], [], at
     while at < len(lines) and (CLAUSE.match(lines[at]) or re.match(r"\s*(//.*)?$", lines[at])):
         if not CLAUSE.match(lines[at]):
+            words += filter(None, [lines[at].strip("/ ")])
             at += 1
             continue
+        if words or not found:
+            found.append((" ".join(words), []))
+            words = []
         text, at = statement(lines, at)
         kind, name, body = re.match(r"(\S+)\s*([\w-]*)\s*\{(.*)\}\s*;?$", text, re.S).groups()
-        found.append(f"  {kind}{' ' + name if name else ''}: {tidy(body)}")
+        found[-1][1].append(f"{kind}{' ' + name if name else ''}: {tidy(body)}")
         behind = at
     return found, behind
 
 
 def items(lines):
-    """(name, signature, doc, clauses) of each public item."""
+    """Each public item, and each impl that has a description."""
     at, owner, trait, doc = 0, "", "", []
     while at < len(lines):
         line = lines[at].strip()
@@ -97,94 +114,97 @@ def items(lines):
         elif line.startswith("impl"):
             trait, owner = re.match(r"impl(?:<.*?>)? (?:(\w+).* for )?(\w+)", line).groups("")
             block = line.rstrip(" {")
+            if doc:
+                yield Item("", block, paragraphs(doc))
             if line.endswith("}"):
                 owner, trait = "", ""
         elif trait in TOLD and line.startswith("ghost ") and "=" in line:
             text, at = statement(lines, at - 1)
-            yield f"{owner} {trait}", tidy(f"{block}: {text}").rstrip(";"), [], []
+            yield Item(f"{owner} {trait}", tidy(f"{block}: {text}").rstrip(";"), [])
         elif line.startswith("pub trait"):
             owner = trait = re.match(r"pub trait (\w+)", line)[1]
-            yield owner, line[4:].rstrip(" {"), doc, []
+            yield Item(owner, line[4:].rstrip(" {"), paragraphs(doc))
         elif PUBLIC.match(line) or (trait and trait not in HIDDEN and re.match(r"fn |ghost \w+:", line)):
-            if line.startswith("pub struct"):
+            members = list(members_at(lines, at)) if re.match(r"pub (struct|enum)\b.*\{$", line) else []
+            described = [*paragraphs(doc), *members]
+            if members or line.startswith("pub struct"):
                 text = line.rstrip(" {")
             else:
                 text, at = statement(lines, at - 1)
             text = tidy(re.sub(r"^pub (extern \"C\" )?", "", text)).rstrip(" {;")
             text = re.sub(r", \}$", " }", text)
-            said, at = clauses_at(lines, at)
-            word = re.match(r"\w+ (\w+)", text)[1]
+            groups, at = groups_at(lines, at)
+            name = re.match(r"(?:const )?\w+ (\w+)", text)[1]
             if owner and text.startswith("fn "):
-                word = f"{owner}::{word}"
+                name = f"{owner}::{name}"
                 text = f"fn {owner}::{text[3:]}" + (f", as {trait}" if trait not in ("", owner) else "")
-            if said or trait in ("", owner):
-                yield word, text, doc, said
+            if groups or trait in ("", owner):
+                yield Item(name, text, described, groups)
         elif not line or line.startswith(("#[", "//")):
             continue
         doc = []
 
 
-def promises(crate):
-    """The lines of a part of the file of promises, each as its words and its clauses."""
-    text = PROMISED.read_text("utf-8").partition(f"\n## {crate}\n")[2].partition("\n\n")[0]
-    return [tuple(line.rsplit(" | ", 1)) for line in text.splitlines()]
+def files(crate):
+    """(path, its lines) of each source of a crate that isn't a test."""
+    for path in sorted((crate / "src").rglob("*.rt"), key=lambda path: str(path.with_suffix(""))):
+        if "tests" not in path.relative_to(crate).parts and path.name != "tests.rt":
+            yield path, path.read_text("utf-8").splitlines()
+
+
+def description(lines):
+    """The text at the head of a file."""
+    return "\n\n".join(paragraphs([line[3:].strip() for line in lines if line.startswith("//!")]))
+
+
+def twin(item, earlier):
+    """The first call of the same name and description before a call, over another cursor, and the clauses that both have."""
+    method = item.name.rpartition("::")[2]
+    for other in earlier:
+        same = [it for it in item.clauses() if it in other.clauses()]
+        if other.name.rpartition("::")[2] == method and len(same) > 1 and item.doc and item.doc == other.doc:
+            return other.name, same
+    return "", []
+
+
+def entry(item, earlier):
+    """The lines of an item. What an earlier twin says isn't repeated."""
+    other, same = twin(item, earlier)
+    yield item.signature
+    if not other:
+        yield from ("  " + it for it in item.doc)
+    elif same == item.clauses():
+        yield f"  as {other}"
+    else:
+        yield f"  {', '.join(re.match(r'[^ :]+ ?([^:]*):', it)[1] for it in same)} as {other}"
+    for words, clauses in item.groups:
+        left = [it for it in clauses if it not in same]
+        yield from [f"  // {words}"] * bool(words and left)
+        yield from ("  " + it for it in left)
 
 
 def page(crate):
-    rows = "".join(f"| {words} | {cell} |\n" for words, cell in promises(crate.name))
-    if crate.name == FOR_C:
-        return FOR_C_HEAD + WORDS + rows
-    out, twins = [HEAD.format(crate.name), WORDS + rows], {}
-    for path in sorted((crate / "src").rglob("*.rt"), key=lambda path: str(path.with_suffix(""))):
-        lines = path.read_text().splitlines()
-        found = [] if "tests" in path.parts or path.name == "tests.rt" else list(items(lines))
-        if not found:
-            continue
-        about = first(line[4:] for line in lines if line.startswith("//! "))
-        out += [f"## {path.relative_to(crate)}", about, "```text"]
-        for word, text, doc, said in found:
-            twin = twins.setdefault((word.split("::")[-1], *said), word) if len(said) > 1 else word
-            out.append(text)
-            out += ["  " + first(doc)] * bool(doc and twin == word)
-            out += said if twin == word else [f"  as {twin}"]
-        out += ["```"]
-    return "\n".join(out) + "\n"
-
-
-def clauses_of(crate):
-    """(call, clause) of each clause that a public call of a crate ensures. The name of a single clause may be empty."""
-    for path in sorted((TOP / "crates" / crate / "src").rglob("*.rt")):
-        for _, text, _, said in items(path.read_text("utf-8").splitlines()):
-            call = re.match(r"(?:const )?fn (?:\w+::)?(\w+)", text)
-            yield from ((call[1], it) for it in re.findall(r"^  ensures\*? ?([\w-]*):", "\n".join(said), re.M) if call)
-
-
-def groups(cell):
-    """(pattern of the calls, names of clauses or None for all) of each entry of a cell, as WORDS describes it."""
-    for part in cell.split(";"):
-        calls = []
-        for before, said in re.findall(r"([^`]*)`([^`]*)`", part):
-            names, colon, ensured = said.partition(": ")
-            calls += [re.escape(it.split("::")[-1]).replace(r"\.\.", r"\w*") for it in names.split(", ")]
-            calls[-1] = re.sub(r"\d+$", r"\\d+", calls[-1]) if before.strip() == "to" else calls[-1]
-            if colon:
-                yield "|".join(calls), ensured.split(", ")
-                calls = []
-        if calls:
-            yield "|".join(calls), None
-
-
-def groups_of(path):
-    """The groups in the last cells of the tables of a page."""
-    for line in "".join(TABLE.findall(path.read_text("utf-8"))).splitlines():
-        yield from groups(line.strip("| ").split(" | ")[-1])
+    head = dict(files(crate))[crate / "src/lib.rt"]
+    out, earlier = [HEAD.format(crate.name, description(head))], []
+    for path, lines in files(crate):
+        found = list(items(lines))
+        if found:
+            out += [f"## {path.relative_to(crate)}", "", description(lines), "", "```text"]
+        for item in found:
+            out += entry(item, earlier)
+            earlier.append(item)
+        out += ["```", ""] * bool(found)
+    return "\n".join(out)
 
 
 def faults():
-    """Each clause that has no words."""
-    helping = [it for _, cell in promises("helpers") for it in groups(cell)]
+    """Each public call with clauses that have no words, or whose words have to say too much."""
     for crate in CRATES:
-        said = [*groups_of(TOP / "crates" / crate / "CONTRACTS.md"), *groups_of(TOP / "docs/PROOFS.md"), *helping]
-        for call, name in dict.fromkeys(clauses_of(crate)):
-            if not any(re.fullmatch(calls, call) and (names is None or name in names) for calls, names in said):
-                yield f"{crate} {call}: {name or '(its one clause)'} has no words: add it to tools/pages/promised"
+        for path, lines in files(TOP / "crates" / crate):
+            for item in items(lines):
+                for words, clauses in item.groups:
+                    where = f"{path.relative_to(TOP)}: {item.name}: `{clauses[0]}`"
+                    if not words and not item.doc:
+                        yield f"{where} has no words: put a comment above it"
+                    elif sum(it.startswith("ensures") for it in clauses) > MOST:
+                        yield f"{where} shares its words with too many clauses: put a comment above some of them"
