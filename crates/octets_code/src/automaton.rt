@@ -105,6 +105,7 @@ impl State {
         ensures path { result ≡ bits_of len bits }
         ensures open { IsOpen result }
     {
+        // A one bit before the others keeps paths of different lengths apart, such as 0 and 00.
         State {
             index: FRONTS[(1 << len | bits) as usize],
         }
@@ -119,6 +120,7 @@ impl State {
         // The path of every state is open, by its type. A caller's proof may need to know that.
         ensures open { IsOpen self.now }
     {
+        // The states of 0 to 7 one bits have the first numbers, so that no table is read.
         self.index < 8
     }
 

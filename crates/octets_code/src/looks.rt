@@ -23,6 +23,7 @@ pub fn look_at(index: u16) -> Look
     // There are at most two. If there is none, the 12 bits are the beginning of a longer code.
     ensures { IsLook (bits_of 12 index) result.cut result.pair }
 {
+    // There are two tables, since each entry of a single one would have a byte of padding.
     Look {
         cut: CUTS[index as usize],
         pair: PAIRS[index as usize],

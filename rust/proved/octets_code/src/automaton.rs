@@ -72,6 +72,7 @@ impl State {
     pub fn of_front(len: u8, bits: u8) -> State {
         #[cfg(feature = "checked")]
         ::core::assert!((len as u128) <= 3u128, "`of_front` requires `len ≤ 3`");
+        // A one bit before the others keeps paths of different lengths apart, such as 0 and 00.
         State {
             index: FRONTS[(1 << len | bits) as usize],
         }
@@ -81,6 +82,7 @@ impl State {
     /// 5.2, calls them padding).
     #[inline(always)]
     pub fn is_fill(&self) -> bool {
+        // The states of 0 to 7 one bits have the first numbers, so that no table is read.
         self.index < 8
     }
 

@@ -39,8 +39,8 @@ pub fn code_behind(ones: u32, more: u8) -> Option<Coded> {
     })
 }
 
-/// 32 times the symbol whose code these begin with, and the length of its code; of thirty ones that
-/// of the end code.
+/// Returns 32 times the symbol whose code these bits begin with, plus the length of this code, so
+/// that the table is read by one load. Thirty ones begin with the code of 256.
 ///
 /// # Requires
 ///

@@ -24,6 +24,7 @@ pub struct Look {
 pub fn look_at(index: u16) -> Look {
     #[cfg(feature = "checked")]
     ::core::assert!((index as u128) < 4096u128, "`look_at` requires `index < 4096`");
+    // There are two tables, since each entry of a single one would have a byte of padding.
     Look {
         cut: CUTS[index as usize],
         pair: PAIRS[index as usize],
