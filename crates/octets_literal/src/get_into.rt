@@ -61,6 +61,7 @@ pub fn get_string_into(cursor: &mut Octets<'_>, out: &mut [u8]) -> Result<usize,
     ensures front { IfErr result (λ why. why ≡ Value → HoldsData (rest cursor.old)
         (λ huffman d. LeavesRead huffman d out.old out.new)) }
 {
+    // This call doesn't say why data have no value.
     let mut fault = ValueError::Long;
     read_string_into(cursor, out, &mut fault)
 }

@@ -22,6 +22,7 @@ use octets::Octets;
 /// ```
 #[inline]
 pub fn get_string_into(cursor: &mut Octets<'_>, out: &mut [u8]) -> Result<usize, LiteralError> {
+    // This call doesn't say why data have no value.
     let mut fault = ValueError::Long;
     read_string_into(cursor, out, &mut fault)
 }
