@@ -8,7 +8,8 @@ ghost use Rattle.octets_script.specs.Left.{HandsBoth};
 use crate::over::slices::write_over;
 use octets::{BufferTooShortError, OctetsMut, Result};
 
-/// Writes into the remaining bytes of each half, and returns all bytes of both.
+/// Writes into the remaining bytes of each half, and returns all bytes of both. By the slices that
+/// it returns, the caller's proof knows what both halves contain when the loans end.
 fn over_both<'a>(
     lent: Result<(OctetsMut<'a>, OctetsMut<'a>)>,
     left: &[u8],

@@ -10,7 +10,8 @@ ghost use Rattle.octets_script.specs.Left.{Hands};
 use crate::over::slices::over_part;
 use octets::{OctetsMut, Result};
 
-/// Returns all bytes of the view that was lent.
+/// Returns all bytes of the view that was lent, so that `over_part` can write into views as it does
+/// into slices.
 fn slice_of<'a>(lent: Result<OctetsMut<'a>>) -> Result<&'a mut [u8]>
     ensures hands { Hands lent.entry result bytes }
 {

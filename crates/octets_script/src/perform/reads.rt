@@ -88,7 +88,8 @@ fn copied_reply(alloc: Global, lent: octets::Result<Octets<'_>>) -> Result<Reply
     }
 }
 
-/// Returns the reply. If its allocation failed, the cursor goes back to `from`.
+/// Returns the reply. If its allocation failed, the cursor goes back to `from`, so that a later run
+/// can make the same call again.
 fn or_go_back(
     cursor: &mut OctetsMut<'_>,
     from: usize,

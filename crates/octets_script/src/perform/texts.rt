@@ -30,6 +30,7 @@ pub(crate) fn decode(
         AnswersLeaving (Call.Decode max_len) cursor.old r cursor.new) }
     ensures refused { OnErr result (RefusedForMemory (Call.Decode max_len) cursor.old cursor.new) }
 {
+    // Only a cursor for reading decodes, so a second one reads what remains.
     let mut remaining = Octets::with_slice(cursor.as_ref());
     let answer = remaining.get_huffman_decoded_with_max_length(alloc, max_len);
     let passed = remaining.off();
