@@ -83,6 +83,7 @@ pub extern "C" fn octets_get_string(
         return SHORT;
     };
     let room = out.len();
+    // The call replaces this if it fails with `Value`.
     let mut fault = ValueError::Long;
     match read_string_into(&mut cursor, out, &mut fault) {
         Ok(value_len) => {

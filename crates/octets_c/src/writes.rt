@@ -153,6 +153,7 @@ fn put_parts(cursor: &mut OctetsMut<'_>, value: &[u8]) -> Result<()>
     ensures same_reference { reference cursor.new ≡ reference cursor.old }
 {
     let len = value.len() as u64;
+    // Both parts are measured first, so that a call that fails doesn't leave the length alone.
     if cursor.cap() < varint_len(len) + value.len() {
         return Err(BufferTooShortError);
     }

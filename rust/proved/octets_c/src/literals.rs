@@ -46,6 +46,7 @@ pub fn octets_get_string(
         return SHORT;
     };
     let room = out.len();
+    // The call replaces this if it fails with `Value`.
     let mut fault = ValueError::Long;
     match read_string_into(&mut cursor, out, &mut fault) {
         Ok(value_len) => {

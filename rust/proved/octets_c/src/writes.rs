@@ -88,6 +88,7 @@ pub fn octets_put_varint_with_len(
 #[inline]
 fn put_parts(cursor: &mut OctetsMut<'_>, value: &[u8]) -> Result<()> {
     let len = value.len() as u64;
+    // Both parts are measured first, so that a call that fails doesn't leave the length alone.
     if cursor.cap() < varint_len(len) + value.len() {
         return Err(BufferTooShortError);
     }
