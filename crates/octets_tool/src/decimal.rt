@@ -6,7 +6,8 @@ ghost use Rattle.octets_tool.specs.Limits.{most_count};
 
 use std::str;
 
-/// The greatest limit, position or number of bytes that a word may spell.
+/// The greatest limit, position or number of bytes that a word may spell. It fits in a `usize` of 32
+/// bits too.
 pub const MOST_COUNT: u64 = 4_294_967_295;
 
 /// Returns the decimal number that a word spells. It has no sign, and no leading zero except in
@@ -16,6 +17,7 @@ pub fn number_of(word: &[u8]) -> Option<u64>
     ensures { (n : ℕ) → (result ≡ Some n) ↔ ((n < 2 ^ 64) × (word.now ≡ decimal n)) }
 {
     match word.first()? {
+        // `parse` accepts a plus sign and leading zeros. Here a number is spelled in one way only.
         b'+' => None,
         b'0' if word.len() > 1 => None,
         _ => str::from_utf8(word).ok()?.parse().ok(),

@@ -7,7 +7,8 @@ ghost use Rattle.octets_tool.specs.Lines.{hex, hex_digit, byte_digits};
 
 use std::alloc::{AllocError, Global};
 
-/// Returns the bytes that a word spells, with two lower-case digits for each byte, or `-` for none.
+/// Returns the bytes that a word spells, with two lower-case digits for each byte, or `-` for none:
+/// without it, no bytes would be an empty word, which no reader of the line sees.
 pub fn bytes_of(alloc: Global, word: &[u8]) -> Result<Option<Vec<u8>>, AllocError>
     ensures { IfOk result (λ found. (b : List ℕ)
         → (option_map vec_items found ≡ Some b) ↔ (AreBytes b × (word.now ≡ hex b))) }

@@ -30,6 +30,7 @@ fn main(rt: HostRuntime) -> ExitCode {
     let answer = task.map(|task| run(rt.alloc(), task, &mut rt.stdin(), &mut rt.stdout()));
     let (status, line) = ending(answer);
     if !line.is_empty() {
+        // If this fails, the status still tells that the program did.
         let _ = eprintln!(rt; "{line}");
     }
     ExitCode::from(status)

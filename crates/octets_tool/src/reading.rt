@@ -26,6 +26,7 @@ pub fn read_whole<R: Read>(alloc: Global, reader: &mut R) -> Result<Vec<u8>, Run
         → ReadsMoreThan most_input (R.remaining reader.old) (R.remaining reader.new) }
     ensures reading_alone { IfErr result (λ fault. fault ≢ RunFault.Write) }
 {
+    // One more byte than an input may have, so that a full buffer means that the input is too long.
     let mut buffer = vec![in alloc; 0u8; MOST_INPUT + 1]?;
     let filled = fill(reader, &mut buffer)?;
     buffer.truncate(filled);

@@ -14,7 +14,8 @@ use std::alloc::Global;
 use std::io::{Read, Write};
 
 /// Runs a command: it reads the whole input, up to the reader's end, then makes the whole output,
-/// and then writes the output.
+/// and then writes the output. So nothing is written before it is known that the command has an
+/// output.
 ///
 /// What the contract says of the bytes holds for a reader and a writer whose bytes are known to
 /// contracts, as those in memory are. It says nothing of a file or a terminal.

@@ -59,6 +59,7 @@ pub fn parse_script(alloc: Global, input: &[u8]) -> Result<Script, ScriptFault>
     let mut commands = Vec::new(alloc);
     while let Some(lines) = rest {
         let (line, after) = cut(lines, b'\n');
+        // Lines are counted from 1, and the first has the buffer.
         let number = commands.len() + 2;
         if commands.len() == MOST_COMMANDS {
             return Err(ScriptFault::Line(number));

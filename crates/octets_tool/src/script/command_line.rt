@@ -58,6 +58,7 @@ pub fn read_command(alloc: Global, line: &[u8]) -> Result<Option<Command>, Alloc
         return with_two_words(alloc, name, first, second);
     };
     let (third, rest) = cut(rest, b' ');
+    // No command has a fourth argument.
     if rest.is_some() {
         return Ok(None);
     }
