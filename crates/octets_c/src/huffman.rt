@@ -105,7 +105,7 @@ pub extern "C" fn octets_put_huffman_encoded(
     if cursor.skip(*off).is_err() {
         return SHORT;
     }
-    // Unlike other writes, this one moves the offset even if it fails: past the prefix that it wrote.
+    // Unlike other writes, this one moves the offset if it fails, past the prefix that it wrote.
     let answer = put_text(&mut cursor, value, lower_case);
     *off = cursor.off();
     match answer {

@@ -77,8 +77,8 @@ fn next_word(place: &mut Place, value: &[u8], to_lower: bool) -> Option<u64>
     None
 }
 
-/// Returns how many bytes the next piece of the last bytes has, or 0 if none is left. The last bytes
-/// are those that `count` bits need, and `given` of them were given before.
+/// Returns how many bytes the next piece of the last bytes has, or 0 if none is left. The last
+/// bytes are those that `count` bits need, and `given` of them were given before.
 ///
 /// These are the pieces of `octets_put_huffman_encoded`: one of four bytes, if there are as many,
 /// and then single bytes. Once the first piece was given, each further one is a single byte.

@@ -6,8 +6,8 @@ ghost use Rattle.octets_tool.specs.Limits.{most_count};
 
 use std::str;
 
-/// The greatest limit, position or number of bytes that a word may spell. It fits in a `usize` of 32
-/// bits too.
+/// The greatest limit, position or number of bytes that a word may spell. It fits in a `usize` of
+/// 32 bits too.
 pub const MOST_COUNT: u64 = 4_294_967_295;
 
 /// Returns the decimal number that a word spells. It has no sign, and no leading zero except in

@@ -1,11 +1,11 @@
-//! Huffman decodes of all remaining bytes as one encoding, under a limit for the length of its value
-//! (RFC 7541, section 5.2).
+//! Huffman decodes of all remaining bytes as one encoding, under a limit for the length of its
+//! value (RFC 7541, section 5.2).
 //!
 //! Each contract says in two ways what a decode returns. The clauses `value` and `every` say it by
 //! `IsAnswer`, which relates the bytes, the limit and the value. The clauses `text`, `one`, `limit`
-//! and `given` follow from these two. They say it by `text v`, which is the encoding of v, and serve
-//! a caller that knows which value was encoded. The clause `ends` says where a decode leaves the
-//! offset, and how much memory it allocates.
+//! and `given` follow from these two. They say it by `text v`, which is the encoding of v, and
+//! serve a caller that knows which value was encoded. The clause `ends` says where a decode leaves
+//! the offset, and how much memory it allocates.
 ghost use Rattle.std.specs.Prelude.{◌≡◌, ◌+◌, ◌*◌, ◌<◌, ◌≤◌, ◌^◌, ◌++◌, length, take, drop};
 ghost use Rattle.std.specs.Prelude.{ℕ, vec_len, List, IfOk, IfErr, IsOkAnd, OnOk, OnErr};
 ghost use Rattle.octets_code.specs.Answers.{IsAnswer};

@@ -1,5 +1,5 @@
-//! Finds the codes of an encoding of at most eight bytes, which is one window of 64 bits with one bits
-//! after its end.
+//! Finds the codes of an encoding of at most eight bytes, which is one window of 64 bits with one
+//! bits after its end.
 ghost use Rattle.std.specs.Prelude.{take};
 ghost use Rattle.octets_code.specs.Bits.{bits_of};
 ghost use Rattle.octets.specs.Windows.{IsShown};
@@ -29,12 +29,12 @@ pub(super) fn look_through(window: u64, value: &mut [u8; 32]) -> Found
 {
     // The window is inverted, so a shift adds one bits after its end.
     let mut inverse = !window;
-    // The sum of the cuts of the lookups. Eight lookups may find 64 bits or more, which count as one
-    // code more in this sum. So the number of codes is also counted by itself.
+    // The sum of the cuts of the lookups. Eight lookups may find 64 bits or more, which count as
+    // one code more in this sum. So the number of codes is also counted by itself.
     let mut sums: usize = 0;
     let mut count: usize = 0;
     let mut looks: usize = 0;
-    // The first two lookups are made even if one is enough: a wrongly predicted branch takes longer.
+    // The first two lookups are made even if one is enough: a mispredicted branch takes longer.
     'looks: while looks < 8 && (looks < 2 || inverse != 0) {
         let look = look_at((!inverse >> 52) as u16);
         if look.cut == 0 {
