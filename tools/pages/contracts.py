@@ -17,7 +17,7 @@ HEAD = """# Contracts of `{0}`
 
 Each public call, its description, and its clauses, as they are in `src/`. `tools/pages/make` writes this page; [CALLING.md](../octets/CALLING.md#the-picture) says how to read a clause, [WORDS.md](../../docs/WORDS.md) what the definitions mean, and the [glossary](../../docs/DEFINITIONS.md#terms) what a loan or a sink is.
 
-- The description of a call says in words what the clauses directly below it state. A line with `//` does so for the clauses below it.
+- The description of a call says in words what the clauses directly below it state. A line with `//` does so for the clauses below it. *Exactly if* means "if and only if".
 - `S` is what `self` points to at the call, and `S'` at the return. A starred clause says what a loan leaves once it ends.
 - `as X` says that the description and all clauses are word for word those of the method X, over this cursor. `fits, view as X` says so of the description and of these two.
 
@@ -100,6 +100,23 @@ def groups_at(lines, at):
     return found, behind
 
 
+def item_at(lines, at, doc, owner, trait):
+    """The function, constant, type or ghost member that begins at line `at`, and the line after it."""
+    members = list(members_at(lines, at + 1)) if re.match(r"pub (struct|enum)\b.*\{$", lines[at]) else []
+    if members or lines[at].startswith("pub struct"):
+        text, at = lines[at].rstrip(" {"), at + 1
+    else:
+        text, at = statement(lines, at)
+    text = tidy(re.sub(r"^pub (extern \"C\" )?", "", text)).rstrip(" {;")
+    text = re.sub(r", \}$", " }", text)
+    groups, at = groups_at(lines, at)
+    name = re.match(r"(?:const )?\w+ (\w+)", text)[1]
+    if owner and text.startswith("fn "):
+        name = f"{owner}::{name}"
+        text = f"fn {owner}::{text[3:]}" + (f", as {trait}" if trait not in ("", owner) else "")
+    return Item(name, text, [*paragraphs(doc), *members], groups), at
+
+
 def items(lines):
     """Each public item, and each impl that has a description."""
     at, owner, trait, doc = 0, "", "", []
@@ -125,21 +142,9 @@ def items(lines):
             owner = trait = re.match(r"pub trait (\w+)", line)[1]
             yield Item(owner, line[4:].rstrip(" {"), paragraphs(doc))
         elif PUBLIC.match(line) or (trait and trait not in HIDDEN and re.match(r"fn |ghost \w+:", line)):
-            members = list(members_at(lines, at)) if re.match(r"pub (struct|enum)\b.*\{$", line) else []
-            described = [*paragraphs(doc), *members]
-            if members or line.startswith("pub struct"):
-                text = line.rstrip(" {")
-            else:
-                text, at = statement(lines, at - 1)
-            text = tidy(re.sub(r"^pub (extern \"C\" )?", "", text)).rstrip(" {;")
-            text = re.sub(r", \}$", " }", text)
-            groups, at = groups_at(lines, at)
-            name = re.match(r"(?:const )?\w+ (\w+)", text)[1]
-            if owner and text.startswith("fn "):
-                name = f"{owner}::{name}"
-                text = f"fn {owner}::{text[3:]}" + (f", as {trait}" if trait not in ("", owner) else "")
-            if groups or trait in ("", owner):
-                yield Item(name, text, described, groups)
+            item, at = item_at(lines, at - 1, doc, owner, trait)
+            if item.groups or trait in ("", owner):
+                yield item
         elif not line or line.startswith(("#[", "//")):
             continue
         doc = []
