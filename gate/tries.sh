@@ -61,7 +61,7 @@ runs_linked() {
 
 # Whether cargo finds the crate octets 0.3.7 without a network, for the program in a folder. If not, this prints so.
 finds_crate() {
-    [ -e "${OCTETS_SOURCE:-}/src--src--lib.rs.txt" ] ||
+    [ -e "${OCTETS_SOURCE:-/nowhere}/src/lib.rs" ] || [ -e "${OCTETS_SOURCE:-/nowhere}/src--src--lib.rs.txt" ] ||
         cargo metadata --offline --format-version 1 --manifest-path "$1/Cargo.toml" > "$said" 2>&1 || {
         echo "$part: the crate octets 0.3.7 isn't found, so nothing was compared with it"
         return 1

@@ -2,9 +2,9 @@
 # the Rust crate octets 0.3.7. They source it.
 #
 #   OCTETS_LIB     the folder of a liboctets_c.a that is built already
-#   OCTETS_SOURCE  a folder with the Rust crate's files, as src--src--lib.rs.txt and
-#                  src--src--huffman_table.rs.txt; without it the crate comes from the registry, as
-#                  cargo finds it
+#   OCTETS_SOURCE  a checkout of the Rust crate, with src/lib.rs and src/huffman_table.rs, or a folder that has these files
+#                  as src--src--lib.rs.txt and src--src--huffman_table.rs.txt; without it the crate comes from the
+#                  registry, as cargo finds it
 #
 # The first run of each proves the library, which takes some minutes.
 
@@ -48,10 +48,12 @@ make_library() {
 # Makes a registry of cargo in a folder, which has only the Rust crate. With the arguments below it, cargo uses this
 # registry in the place of crates.io, and a lock file names the crate as one from crates.io.
 make_registry() {
-    local crate=$1/octets
+    local crate=$1/octets file
     mkdir -p "$crate/src"
-    cp "$OCTETS_SOURCE/src--src--lib.rs.txt" "$crate/src/lib.rs"
-    cp "$OCTETS_SOURCE/src--src--huffman_table.rs.txt" "$crate/src/huffman_table.rs"
+    for file in lib huffman_table; do
+        cp "$OCTETS_SOURCE/src/$file.rs" "$crate/src" 2> /dev/null ||
+            cp "$OCTETS_SOURCE/src--src--$file.rs.txt" "$crate/src/$file.rs"
+    done
     echo '{"files":{}}' > "$crate/.cargo-checksum.json"
     cat > "$crate/Cargo.toml" << 'END'
 [package]
