@@ -5,6 +5,7 @@ pub mod Optional
 pub mod Others
 pub mod Params
 pub mod Points
+pub mod Preferred
 pub mod StreamFrames
 pub mod Tagged
 pub mod Tokens

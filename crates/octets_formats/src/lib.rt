@@ -15,6 +15,7 @@ pub mod optional;
 pub mod pairs;
 pub mod params;
 pub mod points;
+pub mod preferred;
 pub mod stream;
 pub mod tagged;
 pub mod tokens;

@@ -1,3 +1,4 @@
+mod AckEnds
 mod CoapHeads
 mod DhcpOptions
 mod FieldSinks

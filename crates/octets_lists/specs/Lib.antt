@@ -1,3 +1,4 @@
+pub mod Acks
 pub mod CoapOptions
 pub mod DhcpOptions
 pub mod DomainNames

@@ -2,6 +2,7 @@
 //! module has what.
 #![tactic(auto)]
 
+pub mod ack;
 pub mod builder;
 pub mod coap;
 pub mod copies;

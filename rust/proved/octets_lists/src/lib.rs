@@ -11,6 +11,7 @@ crate for that, enable its feature `usize_of_32_bits`");
 
 use rattle_std::{self as std, prelude::*};
 
+pub mod ack;
 pub mod builder;
 pub mod coap;
 pub mod copies;
