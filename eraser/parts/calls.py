@@ -49,7 +49,8 @@ def check_macro(source, word):
 def check_stop(source, word):
     """Refuses a call that ends the program, but in tests."""
     if word in known.STOPPING and not source.in_tests:
-        source.fail(f"{word!r} isn't known outside of tests", "it ends the program in another way in Rust: return an error")
+        source.fail(f"{word!r} isn't known outside of tests", "it ends the program in another way in Rust: return an error. "
+                    "A `#[test]` function has to be in a module for tests: `#[cfg(test)] mod tests { use super::*; .. }`")
 
 
 def check_method(source, word):

@@ -229,6 +229,14 @@ mod tests {
     use super::*;
 
     #[test]
+    fn stops_at_a_cut_record(rt: HostRuntime) {
+        let mut records = Records::of(Octets::with_slice(&[7, 1, 0xaa, 8, 2, 0]));
+        assert!(rt; records.next().is_some_and(|record| record.is_ok()));
+        assert!(rt; records.next().is_some_and(|record| record.is_err()));
+        assert!(rt; records.next().is_none());
+    }
+
+    #[test]
     fn reads_a_report(rt: HostRuntime) {
         let report = [0xc5, 0, 0, 1, 2, 7, 1, 0xaa, 8, 0];
         let mut cursor = Octets::with_slice(&report);
@@ -251,13 +259,5 @@ mod tests {
             count += 1;
         }
         assert!(rt; count == 2 && kinds == [7, 8, 0]);
-    }
-
-    #[test]
-    fn stops_at_a_cut_record(rt: HostRuntime) {
-        let mut records = Records::of(Octets::with_slice(&[7, 1, 0xaa, 8, 2, 0]));
-        assert!(rt; records.next().is_some_and(|record| record.is_ok()));
-        assert!(rt; records.next().is_some_and(|record| record.is_err()));
-        assert!(rt; records.next().is_none());
     }
 }
