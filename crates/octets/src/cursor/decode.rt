@@ -94,11 +94,13 @@ impl<'a> Octets<'a> {
         self.get_huffman_decoded_counted(alloc, max_len, &mut Steps::new())
     }
 
-    /// Decodes as [`Octets::get_huffman_decoded_with_max_length`] does, and counts the work.
+    /// Decodes as [`Octets::get_huffman_decoded_with_max_length`] does, and counts steps.
     ///
-    /// The call adds one to `steps` for each 4 bits of input, which is two for each remaining byte.
-    /// If EOS or a symbol beyond the limit ends the decode early, it counts only up to the 4 bits
-    /// in which that symbol ends. `steps + 2 * cap()` must be below 2 to the power 128.
+    /// The call adds to `steps` the number of steps that the automaton of `octets_code` takes over
+    /// these bytes, four bits in each step: two for each remaining byte. If EOS or a symbol beyond
+    /// the limit ends the decode early, it counts only up to the 4 bits in which that symbol ends.
+    /// Most codes are read by lookup tables, without the automaton: their steps are added by
+    /// [`Steps::spare`]. `steps + 2 * cap()` must be below 2 to the power 128.
     ///
     /// ```
     /// let mut cursor = Octets::with_slice(&[0x18, 0xff]);
