@@ -8,6 +8,7 @@ mod copies;
 mod cursor;
 mod error;
 mod huffman;
+#[doc(hidden)]
 pub mod laws;
 mod number;
 mod slices;

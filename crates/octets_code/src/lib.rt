@@ -6,6 +6,7 @@
 mod automaton;
 mod counting;
 mod entries;
+#[doc(hidden)]
 pub mod laws;
 mod long_codes;
 mod looks;

@@ -6,6 +6,7 @@ mod data;
 mod error;
 mod get;
 mod get_into;
+#[doc(hidden)]
 pub mod laws;
 mod length;
 mod list;

@@ -4,6 +4,7 @@
 
 mod command;
 mod copied;
+#[doc(hidden)]
 pub mod laws;
 mod over;
 mod perform;

@@ -11,6 +11,7 @@ use rattle_std::{self as std, prelude::*};
 mod automaton;
 mod counting;
 mod entries;
+#[doc(hidden)]
 pub mod laws;
 mod long_codes;
 mod looks;
