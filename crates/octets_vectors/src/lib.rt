@@ -1,8 +1,10 @@
 //! What the cursors and the Huffman code are tested with: laws of several calls, as functions whose
-//! contracts state them; callers with the greatest numbers; sinks; and a simple encoder, with which
-//! the fast one is compared. `octets_vectors_tests` has the tests that run them.
+//! contracts state them; callers with the greatest numbers; sinks; calls as plain data; and a simple
+//! encoder, with which the fast one is compared. Its tests are those of the crate `octets` 0.3.7, by
+//! their names. `octets_vectors_tests` has all others.
 #![tactic(auto)]
 
+pub mod calls;
 pub mod edges;
 mod encoded;
 pub mod followed;
@@ -14,6 +16,8 @@ mod plain;
 pub mod said;
 pub mod scripts;
 mod sinks;
+#[cfg(test)]
+mod tests;
 
 pub use encoded::encode_into;
 pub use plain::put_huffman_plain;

@@ -1,48 +1,15 @@
 //! Runs of bytes, with and without a length before them.
 
-use super::reads::{Read, ReadRow, assert_read_rows};
+use super::assert_reads;
 use octets::{Bytes, Cursor, Octets, OctetsMut};
+use octets_vectors::calls::reads::{Read, Row};
 use std::alloc::{AllocError, Global};
 
 /// Calls for runs of bytes.
 #[rattlefmt::skip]
-static RUNS: [ReadRow; 12] = [
-    (&[1, 2, 3, 4, 5, 6, 7, 8, 9, 10], &[
-        Read::GetBytes(5, Some(&[1, 2, 3, 4, 5])),
-        Read::At(5, 5),
-        Read::GetBytes(3, Some(&[6, 7, 8])),
-        Read::At(8, 2),
-        Read::GetBytes(3, None),
-        Read::At(8, 2),
-        Read::GetBytes(2, Some(&[9, 10])),
-        Read::At(10, 0),
-        Read::GetBytes(2, None),
-    ]),
-    (&[1, 2, 3, 4, 5, 6, 7, 8, 9, 10], &[
-        Read::PeekBytes(5, Some(&[1, 2, 3, 4, 5])),
-        Read::At(0, 10),
-        Read::PeekBytes(5, Some(&[1, 2, 3, 4, 5])),
-        Read::At(0, 10),
-        Read::PeekBytes(11, None),
-        Read::GetBytes(5, Some(&[1, 2, 3, 4, 5])),
-        Read::PeekBytes(6, None),
-        Read::At(5, 5),
-    ]),
-    (b"helloworld", &[
-        Read::Slice(5, Some(b"hello")),
-        Read::Slice(0, Some(b"")),
-        Read::Slice(11, None),
-        Read::GetBytes(5, Some(b"hello")),
-        Read::Slice(5, Some(b"world")),
-        Read::At(5, 5),
-    ]),
+static RUNS: [Row; 9] = [
     // The last bytes of the whole buffer, at most as many as remain.
     (b"helloworld", &[
-        Read::SliceLast(4, Some(b"orld")),
-        Read::SliceLast(1, Some(b"d")),
-        Read::SliceLast(0, Some(b"")),
-        Read::SliceLast(10, Some(b"helloworld")),
-        Read::SliceLast(11, None),
         Read::GetBytes(5, Some(b"hello")),
         Read::SliceLast(4, Some(b"orld")),
         Read::SliceLast(6, None),
@@ -73,7 +40,7 @@ static RUNS: [ReadRow; 12] = [
 
 #[test]
 fn reads_runs(rt: HostRuntime) {
-    assert_read_rows(&rt, &RUNS);
+    assert_reads(&rt, &RUNS);
 }
 
 /// Whether the cursor copies what remains, and has the whole buffer afterwards.

@@ -1,97 +1,11 @@
 //! Views for writing and halves, and what the cursor holds when they have ended.
 
 use super::assert_answered;
-use super::reads::{Read, answers_mut};
-use super::writes::{Write, wrong_write};
 use octets::OctetsMut;
+use octets_vectors::calls::reads::Read;
+use octets_vectors::calls::views::{Row, Show, wrong_call};
+use octets_vectors::calls::writes::Write;
 use std::process::Abort;
-
-/// A call that lends cursors over ranges of the buffer, and the calls on each of them; or one of
-/// the calls that read and move. `None` is expected of a call that is to fail as too short.
-#[derive(Clone, Copy)]
-enum Show {
-    GetBytesMut(usize, Option<&'static [Write]>),
-    PeekBytesMut(usize, Option<&'static [Write]>),
-    SplitAt(usize, Option<(&'static [Write], &'static [Write])>),
-    Read(Read),
-}
-
-/// Calls on bytes, and what they leave.
-#[derive(Clone, Copy)]
-struct Row {
-    bytes: &'static [u8],
-    shows: &'static [Show],
-    left: &'static [u8],
-}
-
-/// Whether there is a view of the next `len` bytes and each of its calls returns what is expected,
-/// or there are neither.
-fn is_view(cursor: &mut OctetsMut<'_>, len: usize, wanted: Option<&[Write]>) -> bool {
-    let Some(writes) = wanted else {
-        return cursor.get_bytes_mut(len).is_err();
-    };
-    match cursor.get_bytes_mut(len) {
-        Ok(mut view) => wrong_write(&mut view, writes) == None,
-        Err(_) => false,
-    }
-}
-
-/// The same for a view that leaves the offset where it is.
-fn is_view_ahead(cursor: &mut OctetsMut<'_>, len: usize, wanted: Option<&[Write]>) -> bool {
-    let Some(writes) = wanted else {
-        return cursor.peek_bytes_mut(len).is_err();
-    };
-    match cursor.peek_bytes_mut(len) {
-        Ok(mut view) => wrong_write(&mut view, writes) == None,
-        Err(_) => false,
-    }
-}
-
-/// Whether each call of each half returns what is expected, or the split fails.
-fn is_split(cursor: &mut OctetsMut<'_>, off: usize, wanted: Option<(&[Write], &[Write])>) -> bool {
-    match (cursor.split_at(off), wanted) {
-        (Ok((mut left, mut right)), Some((on_left, on_right))) => {
-            wrong_write(&mut left, on_left) == None && wrong_write(&mut right, on_right) == None
-        }
-        (Err(_), None) => true,
-        _ => false,
-    }
-}
-
-/// Whether the call of the cursor returns what is expected.
-fn answers(cursor: &mut OctetsMut<'_>, show: &Show) -> bool {
-    match *show {
-        Show::GetBytesMut(len, wanted) => is_view(cursor, len, wanted),
-        Show::PeekBytesMut(len, wanted) => is_view_ahead(cursor, len, wanted),
-        Show::SplitAt(off, wanted) => is_split(cursor, off, wanted),
-        Show::Read(ref read) => answers_mut(cursor, read),
-    }
-}
-
-/// Returns the first call of the cursor that doesn't return what is expected.
-fn wrong_show(cursor: &mut OctetsMut<'_>, shows: &[Show]) -> Option<usize> {
-    for (i, show) in shows.iter().enumerate() {
-        if !answers(cursor, show) {
-            return Some(i);
-        }
-    }
-    None
-}
-
-/// Returns the first such call on the bytes. If the calls leave other bytes than those of the case,
-/// the result is their number.
-fn wrong_call(row: &Row) -> Option<usize> {
-    let mut buffer = [0; 64];
-    let Some(bytes) = buffer.get_mut(..row.bytes.len()) else {
-        return Some(row.shows.len());
-    };
-    bytes.copy_from_slice(row.bytes);
-    let wrong = wrong_show(&mut OctetsMut::with_slice(bytes), row.shows);
-    if wrong == None && *bytes != *row.left {
-        return Some(row.shows.len());
-    }
-    wrong
-}
 
 /// Each case holds.
 fn assert_rows(rt: &impl Abort, rows: &[Row]) {
@@ -162,41 +76,7 @@ fn writes_through_views(rt: HostRuntime) {
 
 /// Halves.
 #[rattlefmt::skip]
-static HALVES: [Row; 5] = [
-    Row {
-        bytes: b"helloworld",
-        shows: &[
-            Show::Read(Read::GetBytes(5, Some(b"hello"))),
-            Show::Read(Read::Rest(b"world")),
-            Show::SplitAt(5, Some((
-                &[Write::Read(Read::At(0, 5)), Write::Read(Read::Rest(b"hello"))],
-                &[Write::Read(Read::At(0, 5)), Write::Read(Read::Rest(b"world"))],
-            ))),
-        ],
-        left: b"helloworld",
-    },
-    // The halves at a position, whatever the cursor's own offset is.
-    Row {
-        bytes: b"helloworld",
-        shows: &[
-            Show::Read(Read::Skip(3, Some(()))),
-            Show::SplitAt(5, Some((
-                &[Write::Read(Read::Rest(b"hello"))],
-                &[Write::Read(Read::Rest(b"world"))],
-            ))),
-            Show::SplitAt(9, Some((
-                &[Write::Read(Read::Rest(b"helloworl"))],
-                &[Write::Read(Read::Rest(b"d"))],
-            ))),
-            Show::SplitAt(10, Some((
-                &[Write::Read(Read::Rest(b"helloworld"))],
-                &[Write::Read(Read::Rest(b""))],
-            ))),
-            Show::SplitAt(11, None),
-            Show::Read(Read::At(3, 7)),
-        ],
-        left: b"helloworld",
-    },
+static HALVES: [Row; 3] = [
     // An empty left half, with all of the bytes in the right one; and two empty halves of no
     // bytes.
     Row {
@@ -221,6 +101,7 @@ static HALVES: [Row; 5] = [
         ],
         left: &[],
     },
+    // The position is absolute, whatever the cursor's own offset is.
     Row {
         bytes: b"helloworld",
         shows: &[
@@ -229,6 +110,11 @@ static HALVES: [Row; 5] = [
                 &[Write::PutBytes(b"J", Some(()))],
                 &[Write::PutBytes(b"W", Some(()))],
             ))),
+            Show::SplitAt(10, Some((
+                &[Write::Read(Read::Rest(b"JelloWorld"))],
+                &[Write::Read(Read::Rest(b""))],
+            ))),
+            Show::SplitAt(11, None),
             Show::Read(Read::At(3, 7)),
         ],
         left: b"JelloWorld",
@@ -240,21 +126,20 @@ fn splits_and_writes_through_halves(rt: HostRuntime) {
     assert_rows(&rt, &HALVES);
 }
 
-/// In a view, a write through each half.
-static IN_A_VIEW: [Show; 1] = [Show::SplitAt(
-    1,
-    Some((
-        &[Write::PutU8(9, Some((&[9], &[])))],
-        &[Write::PutU8(7, Some((&[7], &[])))],
-    )),
-)];
+/// Whether a byte is put at the start of the second half.
+fn puts_in_half(cursor: &mut OctetsMut<'_>, off: usize, byte: u8) -> bool {
+    match cursor.split_at(off) {
+        Ok((_, mut right)) => right.put_u8(byte).is_ok(),
+        Err(_) => false,
+    }
+}
 
 #[test]
-fn writes_through_views_of_views(rt: HostRuntime) {
+fn writes_in_a_view_and_then_in_a_half_of_it(rt: HostRuntime) {
     let mut bytes = [1, 2, 3, 4, 5];
     let mut cursor = OctetsMut::with_slice(&mut bytes);
     let is_written = match cursor.get_bytes_mut(3) {
-        Ok(mut view) => wrong_show(&mut view, &IN_A_VIEW) == None,
+        Ok(mut view) => view.put_u16(0x0908).is_ok() && puts_in_half(&mut view, 1, 7),
         Err(_) => false,
     };
     assert!(rt; is_written && cursor.off() == 3 && bytes == [9, 7, 3, 4, 5]);

@@ -1,11 +1,9 @@
-//! Calls that lend, as plain data: each with the bytes that it is expected to lend, and those that
-//! are then written over them.
+//! Calls that lend, each with the bytes that it is expected to lend, and those that are then written
+//! over them.
 
-use super::assert_answered;
 use super::reads::{Read, answers_mut};
 use octets::{MAX_VAR_INT, OctetsMut};
 use octets_script::Wide;
-use std::process::Abort;
 
 /// The bytes that are expected to be lent, and those that are then written over them, from their
 /// start on. `None` is expected of a call that is to fail as too short.
@@ -82,7 +80,7 @@ fn answers(cursor: &mut OctetsMut<'_>, write: &Write) -> bool {
 }
 
 /// Returns the first call of the cursor that doesn't return what is expected.
-pub fn wrong_write(cursor: &mut OctetsMut<'_>, writes: &[Write]) -> Option<usize> {
+pub(crate) fn wrong_write(cursor: &mut OctetsMut<'_>, writes: &[Write]) -> Option<usize> {
     for (i, write) in writes.iter().enumerate() {
         if !answers(cursor, write) {
             return Some(i);
@@ -93,7 +91,7 @@ pub fn wrong_write(cursor: &mut OctetsMut<'_>, writes: &[Write]) -> Option<usize
 
 /// Returns the first such call on the bytes. If the calls leave other bytes than those of the case,
 /// the result is their number.
-fn wrong_call(row: &Row) -> Option<usize> {
+pub fn wrong_call(row: &Row) -> Option<usize> {
     let mut buffer = [0; 64];
     let Some(bytes) = buffer.get_mut(..row.bytes.len()) else {
         return Some(row.writes.len());
@@ -104,11 +102,4 @@ fn wrong_call(row: &Row) -> Option<usize> {
         return Some(row.writes.len());
     }
     wrong
-}
-
-/// Each case holds.
-pub fn assert_rows(rt: &impl Abort, rows: &[Row]) {
-    for (case, row) in rows.iter().enumerate() {
-        assert_answered(rt, case, wrong_call(row));
-    }
 }

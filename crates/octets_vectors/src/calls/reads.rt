@@ -1,9 +1,6 @@
-//! Calls that read and move, as plain data, each with its expected result. One function makes them
-//! on each cursor, so that a test has one line for each call.
+//! Calls that read and move, and one function for each cursor that makes them.
 
-use super::assert_answered;
 use octets::{BufferTooShortError, Bytes, Cursor, Octets, OctetsMut, VarintError};
-use std::process::Abort;
 
 /// A call, and its expected result. `None` is expected of a call that is to fail as too short.
 #[derive(Clone, Copy)]
@@ -87,7 +84,7 @@ fn lends(lent: octets::Result<&mut [u8]>, wanted: Option<&[u8]>) -> bool {
 }
 
 /// Whether a call of a cursor for writing returns what is expected.
-pub fn answers_mut(cursor: &mut OctetsMut<'_>, read: &Read) -> bool {
+pub(crate) fn answers_mut(cursor: &mut OctetsMut<'_>, read: &Read) -> bool {
     match *read {
         Read::GetBytes(len, wanted) => shows(cursor.get_bytes(len), wanted),
         Read::PeekBytes(len, wanted) => shows(cursor.peek_bytes(len), wanted),
@@ -101,8 +98,11 @@ pub fn answers_mut(cursor: &mut OctetsMut<'_>, read: &Read) -> bool {
     }
 }
 
+/// Bytes, and calls on a cursor over them with their expected results.
+pub type Row = (&'static [u8], &'static [Read]);
+
 /// Returns the first call of a cursor for reading the bytes that doesn't return what is expected.
-fn wrong_read(bytes: &[u8], reads: &[Read]) -> Option<usize> {
+pub fn wrong_read(bytes: &[u8], reads: &[Read]) -> Option<usize> {
     let mut cursor = Octets::with_slice(bytes);
     for (i, read) in reads.iter().enumerate() {
         if !answers_reader(&mut cursor, read) {
@@ -114,7 +114,7 @@ fn wrong_read(bytes: &[u8], reads: &[Read]) -> Option<usize> {
 
 /// Returns the first such call of a cursor for writing over a copy of the bytes. If the copy
 /// changes, the result is the number of calls.
-fn wrong_read_mut(bytes: &[u8], reads: &[Read]) -> Option<usize> {
+pub fn wrong_read_mut(bytes: &[u8], reads: &[Read]) -> Option<usize> {
     let mut buffer = [0; 64];
     let Some(copy) = buffer.get_mut(..bytes.len()) else {
         return Some(reads.len());
@@ -130,16 +130,5 @@ fn wrong_read_mut(bytes: &[u8], reads: &[Read]) -> Option<usize> {
         None
     } else {
         Some(reads.len())
-    }
-}
-
-/// Bytes, and calls on a cursor over them with their expected results.
-pub type ReadRow = (&'static [u8], &'static [Read]);
-
-/// In each case the calls of both cursors return what is expected.
-pub fn assert_read_rows(rt: &impl Abort, rows: &[ReadRow]) {
-    for (case, (bytes, reads)) in rows.iter().enumerate() {
-        assert_answered(rt, case, wrong_read(bytes, reads));
-        assert_answered(rt, case, wrong_read_mut(bytes, reads));
     }
 }
