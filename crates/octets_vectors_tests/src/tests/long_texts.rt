@@ -2,7 +2,7 @@
 
 use super::assert_held;
 use super::decoding::{ANY, Wanted, all_decode};
-use super::walk::{agrees, is_copied, walk};
+use super::walk::{agrees, is_copied};
 use std::alloc::{AllocError, Global};
 
 /// Eight codes of `a`, 00011 each.
@@ -35,47 +35,46 @@ fn gives_a(alloc: Global, text: &[u8], count: u32, limit: usize) -> Result<bool,
     Ok(all_decode(alloc, text, limit, &wanted))
 }
 
-/// Whether the value is decoded under no limit and under one of as many bytes. Under one byte less,
-/// the decodes fail as the decoder by bits does.
+/// Whether the decodes fail at the last code under a limit of one byte less than the value has.
+fn fails_below(alloc: Global, text: &[u8], count: u32) -> bool {
+    let wanted = Wanted {
+        value: None,
+        off: text.len(),
+        steps: (u128::from(count) * 5).div_ceil(4),
+    };
+    all_decode(alloc, text, (count as usize).saturating_sub(1), &wanted)
+}
+
+/// Whether the value is decoded under a limit of as many bytes, and not under one byte less, as by
+/// the decoder by bits; and the encoding is copied.
 fn is_decoded(alloc: Global, count: u32) -> Result<bool, AllocError> {
     let text = text_of_a(alloc, count)?;
     let length = count as usize;
-    let below = length.saturating_sub(1);
     Ok(
-        gives_a(alloc, &text, count, ANY)?
-            && gives_a(alloc, &text, count, length)?
-            && agrees(alloc, &text, length)?
-            && agrees(alloc, &text, below)?
-            && !walk(alloc, &text, below)?.is_value
+        gives_a(alloc, &text, count, length)?
+            && fails_below(alloc, &text, count)
+            && agrees(alloc, &text, length.saturating_sub(1))?
             && is_copied(alloc, &text)?,
     )
 }
 
-/// 64 codes have five times 64 bits: after them the decoder is at the beginning of a word again.
-/// These are five such periods.
-const PERIODS: u32 = 5 * 64;
-
-/// Greater numbers of codes, with those at which an allocation has another size.
-#[rattlefmt::skip]
-static COUNTS: [u32; 14] = [
-    510, 511, 512, 513, 819, 820, 1023, 1024, 1025, 1638, 2047, 2049, 3276, 4096,
-];
-
 #[test]
 fn decodes_texts_of_up_to_4096_codes(rt: HostRuntime) {
-    for count in 1..=PERIODS {
+    for count in 1..=4_096 {
         let is_decoded = is_decoded(rt.alloc(), count);
         assert_held(&rt, "codes of a", count as usize, is_decoded);
-    }
-    for count in &COUNTS {
-        let is_decoded = is_decoded(rt.alloc(), *count);
-        assert_held(&rt, "codes of a", *count as usize, is_decoded);
     }
 }
 
 /// Whether 120,000 codes, which have 600,000 bits, are decoded from 75,000 bytes without padding.
 fn is_decoded_from_75000(alloc: Global) -> Result<bool, AllocError> {
-    Ok(text_of_a(alloc, 120_000)?.len() == 75_000 && is_decoded(alloc, 120_000)?)
+    let text = text_of_a(alloc, 120_000)?;
+    Ok(
+        text.len() == 75_000
+            && gives_a(alloc, &text, 120_000, ANY)?
+            && agrees(alloc, &text, 120_000)?
+            && is_decoded(alloc, 120_000)?,
+    )
 }
 
 #[test]
