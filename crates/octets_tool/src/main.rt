@@ -17,6 +17,8 @@ mod reading;
 mod reply_line;
 mod run;
 mod script;
+#[cfg(test)]
+mod tests;
 
 use crate::arguments::parse_args;
 use crate::ending::ending;
