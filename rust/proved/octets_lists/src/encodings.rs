@@ -10,7 +10,11 @@ use octets::{DecodeError, Octets};
 use octets_code::code_len;
 use std::alloc::Global;
 
-/// Reads the value whose text follows a length of two bytes.
+/// Reads the value whose text follows the length of the text, which has two bytes.
+///
+/// If the length is incomplete, the call fails and leaves the offset where it was. If fewer bytes
+/// follow than the length says, it fails and leaves the offset after the length. Otherwise the
+/// offset is afterwards behind these bytes, also if they aren't a text or an allocation failed.
 #[inline]
 pub fn read_text(alloc: Global, cursor: &mut Octets<'_>) -> Result<Vec<u8>, DecodeError> {
     let mut text = cursor.get_bytes_with_u16_length()?;
