@@ -6,20 +6,16 @@
 
 pub mod calls;
 pub mod edges;
-mod encoded;
-pub mod followed;
 pub mod laws;
 pub mod listed;
 pub mod nested;
 pub mod owned;
 mod plain;
-pub mod said;
 pub mod scripts;
 mod sinks;
 #[cfg(test)]
 mod tests;
 
-pub use encoded::encode_into;
 pub use plain::put_huffman_plain;
 pub use sinks::byte_at_a_time::ByteAtATimeSink;
 pub use sinks::failing::{FailingSink, SinkError};

@@ -10,7 +10,6 @@ mod code;
 mod comparison;
 mod decoding;
 mod edges;
-mod followed;
 mod greatest;
 mod hostile_texts;
 mod literals;
