@@ -8,7 +8,6 @@
 //! crate's into a vector that it allocates.
 mod calls;
 mod cold;
-#[path = "../../peers/upstream/src/in_c/exports.rs"]
 #[allow(dead_code)]
 mod exports;
 

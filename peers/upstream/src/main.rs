@@ -1,17 +1,10 @@
 //! `upstream SEED ROUNDS [LEN]` compares each call with that of the crate `octets` 0.3.7: on every
 //! string of up to LEN bytes (2 if LEN isn't given), and in that many rounds on inputs that are
-//! generated from the seed. The calls are those of the crate in rust/, or with the feature `library`
-//! those of the static library, except the two of literals.
-#[cfg(feature = "library")]
-mod in_c;
-#[cfg(not(feature = "library"))]
+//! generated from the seed.
 mod in_rust;
 #[allow(dead_code)]
 mod inputs;
 
-#[cfg(feature = "library")]
-use in_c::compare;
-#[cfg(not(feature = "library"))]
 use in_rust::compare;
 use inputs::Numbers;
 use std::collections::BTreeMap;
