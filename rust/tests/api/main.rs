@@ -1,9 +1,6 @@
 //! Tests of what the crate's calls do, and of the types of its items.
 mod bounds;
-mod each_size;
-mod edges;
 mod examples;
-mod lengths;
 mod model;
 #[allow(clippy::upper_case_acronyms, clippy::wrong_self_convention)]
 mod names;

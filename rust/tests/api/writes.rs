@@ -201,3 +201,20 @@ fn no_bytes_always_fit() {
         assert_eq!((b.skip(0), b.rewind(0), b.off()), (Ok(()), Ok(()), len));
     }
 }
+
+/// A width is compared as a whole: its lowest eight bits may be those of a width that a varint has.
+#[test]
+fn a_width_is_not_cut() {
+    let mut bytes = [0; 9];
+    for len in [257, 258, 260, 264, (1 << 32) + 1] {
+        assert!(OctetsMut::with_slice(&mut bytes).put_varint_with_len(1, len).is_err());
+    }
+}
+
+/// The trait's call writes a long value whole.
+#[test]
+fn a_long_value_is_written_by_the_trait() {
+    let (value, mut bytes) = (vec![7; 200_000], vec![0; 200_000]);
+    OctetsWriter::put_bytes(&mut OctetsMut::with_slice(&mut bytes), &value).unwrap();
+    assert!(bytes == value);
+}
