@@ -15,8 +15,8 @@ use crate::error::Result;
 /// ```
 /// laws::number_read_back();
 /// let mut bytes = [0, 0];
-/// OctetsMut::with_slice(&mut bytes).write_u16(258)?;
-/// assert_eq!(Octets::with_slice(&bytes).get_u16()?, 258);
+/// OctetsMut::with_slice(&mut bytes).write_u16(0x0102)?;
+/// assert_eq!(Octets::with_slice(&bytes).get_u16()?, 0x0102);
 /// ```
 pub fn number_read_back()
     ensures written { NetworkIsNumber }
@@ -42,7 +42,7 @@ pub fn varint_once()
 /// laws::varint_in_width();
 /// let mut bytes = [0, 0];
 /// OctetsMut::with_slice(&mut bytes).write_varint_with_len(37, 2)?;
-/// assert!(bytes == [0x40, 0x25]);
+/// assert_eq!(bytes, [0x40, 0x25]);
 /// ```
 pub fn varint_in_width()
     ensures one { HasOneVarint }
@@ -83,8 +83,8 @@ pub fn kept_is_greatest()
 /// laws::write_is_splice::<&mut [u8]>();
 /// let mut bytes = [9, 9, 9];
 /// let mut cursor = OctetsMut::with_slice(&mut bytes);
-/// cursor.write_u16(258)?;
-/// assert!(cursor.buf() == [1, 2, 9].as_slice());
+/// cursor.write_u16(0x0102)?;
+/// assert_eq!(cursor.buf(), [1, 2, 9].as_slice());
 /// ```
 pub fn write_is_splice<B: Buffer>()
     ensures { WriteIsSplice B.Bytes }

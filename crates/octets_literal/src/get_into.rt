@@ -26,7 +26,7 @@ use octets::Octets;
 /// let mut cursor = Octets::with_slice(&[2, 97, 98, 7]);
 /// let mut out = [0; 4];
 /// assert_eq!(get_string_into(&mut cursor, &mut out)?, 2);
-/// assert!(out == [97, 98, 0, 0]);
+/// assert_eq!(out, [97, 98, 0, 0]);
 /// ```
 #[tactic(auto, using(crate::proofs::Refusals::answers))]
 pub fn get_string_into(cursor: &mut Octets<'_>, out: &mut [u8]) -> Result<usize, LiteralError>
@@ -74,7 +74,7 @@ pub fn get_string_into(cursor: &mut Octets<'_>, out: &mut [u8]) -> Result<usize,
 /// let mut cursor = Octets::with_slice(&[0x82, 0x18, 0xff]);
 /// let mut fault = ValueError::Long;
 /// assert!(read_string_into(&mut cursor, &mut [0], &mut fault).is_err());
-/// assert!(fault == ValueError::Text(IntoError::NoRoom));
+/// assert_eq!(fault, ValueError::Text(IntoError::NoRoom));
 /// ```
 pub fn read_string_into(
     cursor: &mut Octets<'_>,

@@ -9,7 +9,7 @@ use octets_code::laws::answers_decided;
 ///
 /// ```
 /// // 1337 after three bits of something else is 1f 9a 0a.
-/// laws::appendix_integers();
+/// octets_literal::laws::appendix_integers();
 /// ```
 #[tactic(auto, using(crate::proofs::Written::appendix))]
 pub fn appendix_integers()
@@ -20,9 +20,9 @@ pub fn appendix_integers()
 /// At most one prefix of a list of bytes is a literal, and it is a literal of one value.
 ///
 /// ```
-/// laws::literal_once();
+/// octets_literal::laws::literal_once();
 /// let mut cursor = Octets::with_slice(&[2, 97, 98, 7]);
-/// assert!(get_string(alloc, &mut cursor, 9)?.as_slice() == b"ab".as_slice());
+/// assert_eq!(get_string(alloc, &mut cursor, 9)?.as_slice(), b"ab".as_slice());
 /// assert_eq!(cursor.off(), 3);
 /// ```
 #[tactic(auto, using(crate::proofs::OneLiteral::one_literal))]
@@ -34,11 +34,11 @@ pub fn literal_once()
 /// (RFC 7541, section 5.1).
 ///
 /// ```
-/// laws::written_read_back();
+/// octets_literal::laws::written_read_back();
 /// let mut bytes = [0, 0, 0];
 /// write_string::<false>(&mut OctetsMut::with_slice(&mut bytes), b"aa")?;
 /// let read = get_string(alloc, &mut Octets::with_slice(&bytes), 2)?;
-/// assert!(read.as_slice() == b"aa".as_slice());
+/// assert_eq!(read.as_slice(), b"aa".as_slice());
 /// ```
 #[tactic(auto, using(crate::proofs::Written::canon_literal))]
 pub fn written_read_back()
@@ -51,9 +51,9 @@ pub fn written_read_back()
 /// with one, the bytes begin with no literal of a value within the limit.
 ///
 /// ```
-/// laws::refused_once();
+/// octets_literal::laws::refused_once();
 /// let read = get_string(alloc, &mut Octets::with_slice(&[2, 97]), 9);
-/// assert!(read.err() == Some(LiteralError::Short));
+/// assert_eq!(read.err(), Some(LiteralError::Short));
 /// ```
 #[tactic(auto, using(crate::proofs::Refusals::refusals))]
 pub fn refused_once()
@@ -65,7 +65,7 @@ pub fn refused_once()
 /// error other than `OutOfMemory`.
 ///
 /// ```
-/// laws::each_decided();
+/// octets_literal::laws::each_decided();
 /// assert!(get_string(alloc, &mut Octets::with_slice(&[0]), 9)?.is_empty());
 /// assert!(get_string(alloc, &mut Octets::with_slice(&[1]), 9).is_err());
 /// ```

@@ -39,7 +39,7 @@ pub trait Bytes: Drop {
     /// ```
     /// let mut bytes = [1, 2, 3];
     /// let buffer = bytes.as_mut_slice();
-    /// assert!(Bytes::as_slice(&buffer) == [1, 2, 3].as_slice());
+    /// assert_eq!(Bytes::as_slice(&buffer), [1, 2, 3].as_slice());
     /// ```
     fn as_slice(&self) -> &[u8]
         ensures { result.now ≡ bytes self.now };
@@ -55,7 +55,7 @@ pub trait Buffer: Bytes {
     /// let mut bytes = [1, 2, 3];
     /// let mut buffer = bytes.as_mut_slice();
     /// Buffer::part_mut(&mut buffer, 1, 2)[0] = 9;
-    /// assert!(bytes == [1, 9, 3]);
+    /// assert_eq!(bytes, [1, 9, 3]);
     /// ```
     fn part_mut(&mut self, from: usize, len: usize) -> &mut [u8]
         requires { from + len ≤ length (Self.bytes self.old) }

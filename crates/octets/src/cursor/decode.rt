@@ -35,7 +35,7 @@ impl<'a> Octets<'a> {
     ///
     /// ```
     /// let mut cursor = Octets::with_slice(&[0x18, 0xff]);
-    /// assert!(cursor.get_huffman_decoded(alloc)?.as_slice() == b"aa".as_slice());
+    /// assert_eq!(cursor.get_huffman_decoded(alloc)?.as_slice(), b"aa".as_slice());
     /// ```
     #[inline(always)]
     pub fn get_huffman_decoded(&mut self, alloc: Global) -> Result<Vec<u8>, DecodeError>
@@ -150,20 +150,20 @@ impl<'a> Octets<'a> {
         }
     }
 
-    /// Decodes the remaining bytes into the beginning of `out`, whose length is the limit, and
-    /// returns the number of bytes that it wrote. It allocates nothing.
+    /// Decodes the bytes that remain as one Huffman-encoded string into the first bytes of `out`,
+    /// advances the offset to the end, and returns how many bytes of `out` it wrote. It allocates
+    /// nothing.
     ///
-    /// All bytes to the end of the buffer are one encoding, as in
-    /// [`Octets::get_huffman_decoded_with_max_length`]. If the call fails, it leaves the offset
-    /// where that call would leave it under the limit `out.len()`, and `out` begins with the bytes
-    /// that were decoded before the failure. The error says which failure came first: the bytes are
-    /// no Huffman encoding, or the value has more bytes than `out`.
+    /// It fails with [`IntoError::NoRoom`] if the value is longer than `out`, and with
+    /// [`IntoError::NotText`] if the bytes aren't a Huffman-encoded string. Then `out` begins with
+    /// the bytes that were decoded before the error, and the offset is after the byte at which the
+    /// decoder found the error.
     ///
     /// ```
     /// let mut cursor = Octets::with_slice(&[0x18, 0xff]);
     /// let mut out = [0; 4];
-    /// assert_eq!(cursor.get_huffman_decoded_into(&mut out).ok(), Some(2));
-    /// assert!(out == [97, 97, 0, 0]);
+    /// assert_eq!(cursor.get_huffman_decoded_into(&mut out), Ok(2));
+    /// assert_eq!(out, [97, 97, 0, 0]);
     /// ```
     // It is inlined so that neither the cursor nor the result is stored in memory.
     #[inline(always)]

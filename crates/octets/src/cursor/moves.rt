@@ -32,13 +32,16 @@ impl<B: Bytes> Cursor<B> {
         }
     }
 
-    /// Moves the offset back by `len` bytes. It fails if the offset is less than `len`.
+    /// Moves the offset back by `len` bytes.
+    ///
+    /// It fails if the offset is less than `len`. Then the offset is unchanged.
     ///
     /// ```
     /// let mut cursor = Octets::with_slice(&[1, 2, 3]);
     /// cursor.skip(2)?;
     /// cursor.rewind(1)?;
-    /// assert_eq!(cursor.get_u8()?, 2);
+    /// assert_eq!(cursor.off(), 1);
+    /// assert_eq!(cursor.rewind(2), Err(BufferTooShortError));
     /// ```
     pub fn rewind(&mut self, len: usize) -> Result<()>
         ensures fits { IsOk result ↔ (len ≤ position self.old) }
@@ -59,12 +62,15 @@ impl<B: Bytes> Cursor<B> {
         Ok(())
     }
 
-    /// Moves the offset forward by `skip` bytes. It fails if fewer bytes remain.
+    /// Advances the offset by `skip` bytes.
+    ///
+    /// It fails if fewer than `skip` bytes remain. Then the offset is unchanged.
     ///
     /// ```
     /// let mut cursor = Octets::with_slice(&[1, 2, 3]);
     /// cursor.skip(2)?;
-    /// assert_eq!(cursor.get_u8()?, 3);
+    /// assert_eq!(cursor.off(), 2);
+    /// assert_eq!(cursor.skip(2), Err(BufferTooShortError));
     /// ```
     #[tactic(auto, using(crate::proofs::CallerLemmas::passes_passed))]
     pub fn skip(&mut self, skip: usize) -> Result<()>

@@ -15,7 +15,7 @@ pub type Octets<'a> = Cursor<&'a [u8]>;
 impl<'a> Octets<'a> {
     ghost use Rattle.octets.specs.Cursor.{bytes, position, rest};
 
-    /// Returns a cursor over `buf`, at its start.
+    /// Makes a cursor over `buf`, with the offset 0.
     ///
     /// ```
     /// let cursor = Octets::with_slice(&[1, 2, 3]);
@@ -29,12 +29,12 @@ impl<'a> Octets<'a> {
         Cursor { buf, off: 0 }
     }
 
-    /// Returns the whole buffer.
+    /// Returns the whole buffer, including the bytes before the offset.
     ///
     /// ```
     /// let mut cursor = Octets::with_slice(&[1, 2, 3]);
     /// cursor.skip(2)?;
-    /// assert!(cursor.buf() == [1, 2, 3].as_slice());
+    /// assert_eq!(cursor.buf(), [1, 2, 3].as_slice());
     /// ```
     pub fn buf(&self) -> &'a [u8]
         ensures is { result.now ≡ bytes self.now }

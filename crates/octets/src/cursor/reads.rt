@@ -17,7 +17,9 @@ use crate::varint::{read_varint, read_varint_shortest, varint_len};
 impl<B: Bytes> Cursor<B> {
     ghost use Rattle.octets.specs.Cursor.{remaining, rest, Passes, IsUnchanged, Reads, ReadsVarint};
 
-    /// Reads a number of one byte.
+    /// Reads a number of one byte, and advances the offset past it.
+    ///
+    /// It fails if no byte remains. Then the offset is unchanged.
     ///
     /// ```
     /// let mut cursor = Octets::with_slice(&[7, 1]);
@@ -37,12 +39,14 @@ impl<B: Bytes> Cursor<B> {
         Ok(value)
     }
 
-    /// Reads a number of two bytes.
+    /// Reads a number of two bytes, most significant byte first, and advances the offset past it.
+    ///
+    /// It fails if fewer than two bytes remain. Then the offset is unchanged.
     ///
     /// ```
     /// let mut cursor = Octets::with_slice(&[1, 2, 3]);
-    /// assert_eq!(cursor.get_u16()?, 258);
-    /// assert!(cursor.get_u16().is_err());
+    /// assert_eq!(cursor.get_u16()?, 0x0102);
+    /// assert_eq!(cursor.get_u16(), Err(BufferTooShortError));
     /// assert_eq!(cursor.off(), 2);
     /// ```
     #[tactic(auto, unfolding(crate::specs::Cursor::Reads))]
@@ -58,7 +62,9 @@ impl<B: Bytes> Cursor<B> {
         Ok(value)
     }
 
-    /// Reads a number of three bytes.
+    /// Reads a number of three bytes, most significant byte first, and advances the offset past it.
+    ///
+    /// It fails if fewer than three bytes remain. Then the offset is unchanged.
     ///
     /// ```
     /// let mut cursor = Octets::with_slice(&[1, 2, 3]);
@@ -81,7 +87,9 @@ impl<B: Bytes> Cursor<B> {
         Ok(value)
     }
 
-    /// Reads a number of four bytes.
+    /// Reads a number of four bytes, most significant byte first, and advances the offset past it.
+    ///
+    /// It fails if fewer than four bytes remain. Then the offset is unchanged.
     ///
     /// ```
     /// let mut cursor = Octets::with_slice(&[1, 2, 3, 4]);
@@ -100,7 +108,9 @@ impl<B: Bytes> Cursor<B> {
         Ok(value)
     }
 
-    /// Reads a number of eight bytes.
+    /// Reads a number of eight bytes, most significant byte first, and advances the offset past it.
+    ///
+    /// It fails if fewer than eight bytes remain. Then the offset is unchanged.
     ///
     /// ```
     /// let mut cursor = Octets::with_slice(&[0, 0, 0, 0, 1, 2, 3, 4]);
@@ -119,7 +129,9 @@ impl<B: Bytes> Cursor<B> {
         Ok(value)
     }
 
-    /// Returns the next byte, and leaves the offset where it is.
+    /// Reads a number of one byte, and leaves the offset unchanged.
+    ///
+    /// It fails if no byte remains.
     ///
     /// ```
     /// let mut cursor = Octets::with_slice(&[7, 1]);
@@ -134,9 +146,10 @@ impl<B: Bytes> Cursor<B> {
         read_u8(self.buf.as_slice(), self.off)
     }
 
-    /// Reads a variable-length integer (RFC 9000, section 16) of any width, even if the value would
-    /// fit in a smaller width. The call fails if the bytes from the offset on don't begin with a
-    /// complete varint.
+    /// Reads a varint (RFC 9000, section 16), of any width, and advances the offset past it.
+    ///
+    /// It also reads a varint that is wider than its value needs. It fails if no byte remains, or
+    /// if fewer bytes remain than the first byte announces. Then the offset is unchanged.
     ///
     /// ```
     /// let mut cursor = Octets::with_slice(&[0x40, 0x25]);
@@ -166,16 +179,18 @@ impl<B: Bytes> Cursor<B> {
         Ok(value)
     }
 
-    /// Reads a varint as `get_varint` does, and fails with `Overlong` if the varint is wider than
-    /// its value needs.
+    /// Reads a varint as [`get_varint`](Self::get_varint) does, and also fails if the varint is
+    /// wider than its value needs.
     ///
-    /// If the varint is incomplete, the call fails with `Short`. If the call fails, the offset is
+    /// It fails with [`VarintError::Short`] if no complete varint remains, and with
+    /// [`VarintError::Overlong`] if a shorter varint holds the same value. Then the offset is
     /// unchanged.
     ///
     /// ```
-    /// let mut cursor = Octets::with_slice(&[0x40, 0x25]);
-    /// assert!(cursor.get_varint_shortest().is_err());
-    /// assert_eq!(cursor.get_varint()?, 37);
+    /// let mut cursor = Octets::with_slice(&[0x25, 0x40, 0x25]);
+    /// assert_eq!(cursor.get_varint_shortest(), Ok(37));
+    /// assert_eq!(cursor.get_varint_shortest(), Err(VarintError::Overlong));
+    /// assert_eq!(cursor.off(), 1);
     /// ```
     #[tactic(auto, using(crate::proofs::Cursors::varints))]
     pub fn get_varint_shortest(&mut self) -> std::result::Result<u64, VarintError>

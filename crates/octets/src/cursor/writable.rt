@@ -23,7 +23,7 @@ impl<'a> OctetsMut<'a> {
     ghost use Rattle.octets.specs.Cursor.{bytes, position};
     ghost use Rattle.octets.specs.Slices.{reference};
 
-    /// Returns a cursor over `buf`, at its start.
+    /// Makes a cursor over `buf`, with the offset 0.
     ///
     /// ```
     /// let mut bytes = [1, 2, 3];
@@ -41,13 +41,15 @@ impl<'a> OctetsMut<'a> {
         Cursor { buf, off: 0 }
     }
 
-    /// Returns the whole buffer, with its original lifetime.
+    /// Consumes the cursor, and returns the whole buffer with everything that was written. The
+    /// result lives as long as the borrow of the buffer.
     ///
     /// ```
-    /// let mut bytes = [1, 2, 3];
+    /// let mut bytes = [0, 0];
     /// let mut cursor = OctetsMut::with_slice(&mut bytes);
-    /// cursor.skip(2)?;
-    /// assert!(&*cursor.into_inner() == [1, 2, 3].as_slice());
+    /// cursor.put_u8(7)?;
+    /// cursor.into_inner()[1] = 9;
+    /// assert_eq!(bytes, [7, 9]);
     /// ```
     pub fn into_inner(self) -> &'a mut [u8]
         ensures bytes { result.now ≡ bytes self.entry }
@@ -61,13 +63,13 @@ impl<'a> OctetsMut<'a> {
 impl<B: Buffer> Cursor<B> {
     ghost use Rattle.octets.specs.Cursor.{bytes};
 
-    /// Returns the whole buffer.
+    /// Returns the whole buffer, including the bytes before the offset.
     ///
     /// ```
     /// let mut bytes = [1, 2, 3];
     /// let mut cursor = OctetsMut::with_slice(&mut bytes);
     /// cursor.skip(2)?;
-    /// assert!(cursor.buf() == [1, 2, 3].as_slice());
+    /// assert_eq!(cursor.buf(), [1, 2, 3].as_slice());
     /// ```
     pub fn buf(&self) -> &[u8]
         ensures is { result.now ≡ bytes self.now }

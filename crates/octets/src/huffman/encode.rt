@@ -104,7 +104,7 @@ pub(crate) fn put_words<T: Target>(target: &mut T, v: &[u8], to_lower: bool) -> 
 /// let mut bytes = [0, 0, 0];
 /// let mut cursor = OctetsMut::with_slice(&mut bytes);
 /// put_huffman_encoded::<true, OctetsMut<'_>>(&mut cursor, b"AA")?;
-/// assert!(cursor.buf() == [0x18, 0xff, 0].as_slice());
+/// assert_eq!(cursor.buf(), [0x18, 0xff, 0].as_slice());
 /// ```
 #[inline(always)]
 pub fn put_huffman_encoded<const LOWER_CASE: bool, W: OctetsWriter>(

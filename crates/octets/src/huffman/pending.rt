@@ -125,7 +125,7 @@ impl Pending {
     ///
     /// ```
     /// let mut pending = Pending::of_bits(63, 0);
-    /// assert!(pending.push_code(b'a') == Some(0));
+    /// assert_eq!(pending.push_code(b'a'), Some(0));
     /// assert_eq!(pending.count(), 4);
     /// ```
     #[inline]

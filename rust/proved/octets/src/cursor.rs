@@ -37,7 +37,7 @@ impl<B: Bytes> Cursor<B> {
     /// ```text
     /// let mut bytes = [1, 2, 3];
     /// let mut cursor = Cursor::with_buffer(&mut bytes[..]);
-    /// assert_eq!(cursor.get_u16()?, 258);
+    /// assert_eq!(cursor.get_u16()?, 0x0102);
     /// ```
     #[inline]
     pub fn with_buffer(buf: B) -> Self {
@@ -50,7 +50,7 @@ impl<B: Bytes> Cursor<B> {
     /// let mut bytes = [1, 2, 3];
     /// let mut cursor = OctetsMut::with_slice(&mut bytes);
     /// cursor.write_u8(9)?;
-    /// assert!(&*cursor.into_buffer() == [9, 2, 3].as_slice());
+    /// assert_eq!(&*cursor.into_buffer(), [9, 2, 3].as_slice());
     /// ```
     #[inline]
     pub fn into_buffer(self) -> B {
@@ -58,7 +58,7 @@ impl<B: Bytes> Cursor<B> {
         buf
     }
 
-    /// Returns how many bytes remain from the offset on.
+    /// Returns the number of bytes that remain, from the offset to the end of the buffer.
     ///
     /// ```text
     /// let mut cursor = Octets::with_slice(&[1, 2, 3]);
@@ -70,7 +70,7 @@ impl<B: Bytes> Cursor<B> {
         self.buf.len() - self.off
     }
 
-    /// Returns the length of the whole buffer, including the bytes before the offset.
+    /// Returns the number of bytes of the whole buffer, including those before the offset.
     ///
     /// ```text
     /// let mut cursor = Octets::with_slice(&[1, 2, 3]);
@@ -82,8 +82,8 @@ impl<B: Bytes> Cursor<B> {
         self.buf.len()
     }
 
-    /// Returns whether the whole buffer is empty. A cursor at the end of its bytes isn't empty,
-    /// although its `cap` is 0.
+    /// Returns whether the whole buffer has no bytes. A cursor at the end of a buffer with bytes
+    /// isn't empty: test whether [`cap`](Self::cap) is 0 to find the end.
     ///
     /// ```text
     /// let mut cursor = Octets::with_slice(&[1]);
@@ -95,7 +95,8 @@ impl<B: Bytes> Cursor<B> {
         self.buf.as_slice().is_empty()
     }
 
-    /// Returns the offset: the number of bytes before the cursor's position.
+    /// Returns the offset, which is the number of bytes of the buffer before the next byte that is
+    /// read or written.
     ///
     /// ```text
     /// let mut cursor = Octets::with_slice(&[1, 2, 3]);
@@ -112,7 +113,7 @@ impl<B: Bytes> Cursor<B> {
     /// ```text
     /// let mut cursor = Octets::with_slice(&[1, 2, 3]);
     /// cursor.skip(2)?;
-    /// assert!(cursor.as_ref() == [3].as_slice());
+    /// assert_eq!(cursor.as_ref(), [3].as_slice());
     /// ```
     #[inline]
     pub fn as_ref(&self) -> &[u8] {
@@ -125,7 +126,7 @@ impl<B: Bytes> Cursor<B> {
     /// ```text
     /// let mut cursor = Octets::with_slice(&[1, 2, 3]);
     /// cursor.skip(1)?;
-    /// assert!(cursor.to_vec(alloc)?.as_slice() == [2, 3].as_slice());
+    /// assert_eq!(cursor.to_vec(alloc)?.as_slice(), [2, 3].as_slice());
     /// ```
     #[inline]
     pub fn to_vec(&self, alloc: Global) -> Result<Vec<u8>, AllocError> {
@@ -144,7 +145,7 @@ impl<B: Bytes> PartialEq for Cursor<B> {
     ///
     /// ```text
     /// let cursor = Octets::with_slice(&[1, 2, 3]);
-    /// assert!(cursor == Octets::with_slice(&[1, 2, 3]));
+    /// assert_eq!(cursor, Octets::with_slice(&[1, 2, 3]));
     /// ```
     #[inline]
     fn eq(&self, other: &Self) -> bool {

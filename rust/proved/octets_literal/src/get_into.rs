@@ -18,7 +18,7 @@ use octets::Octets;
 /// let mut cursor = Octets::with_slice(&[2, 97, 98, 7]);
 /// let mut out = [0; 4];
 /// assert_eq!(get_string_into(&mut cursor, &mut out)?, 2);
-/// assert!(out == [97, 98, 0, 0]);
+/// assert_eq!(out, [97, 98, 0, 0]);
 /// ```
 #[inline]
 pub fn get_string_into(cursor: &mut Octets<'_>, out: &mut [u8]) -> Result<usize, LiteralError> {
@@ -35,7 +35,7 @@ pub fn get_string_into(cursor: &mut Octets<'_>, out: &mut [u8]) -> Result<usize,
 /// let mut cursor = Octets::with_slice(&[0x82, 0x18, 0xff]);
 /// let mut fault = ValueError::Long;
 /// assert!(read_string_into(&mut cursor, &mut [0], &mut fault).is_err());
-/// assert!(fault == ValueError::Text(IntoError::NoRoom));
+/// assert_eq!(fault, ValueError::Text(IntoError::NoRoom));
 /// ```
 #[inline]
 pub fn read_string_into(

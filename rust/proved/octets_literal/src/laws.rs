@@ -8,7 +8,7 @@ use octets_code::laws::answers_decided;
 ///
 /// ```text
 /// // 1337 after three bits of something else is 1f 9a 0a.
-/// laws::appendix_integers();
+/// octets_literal::laws::appendix_integers();
 /// ```
 #[inline]
 pub fn appendix_integers() {}
@@ -16,9 +16,9 @@ pub fn appendix_integers() {}
 /// At most one prefix of a list of bytes is a literal, and it is a literal of one value.
 ///
 /// ```text
-/// laws::literal_once();
+/// octets_literal::laws::literal_once();
 /// let mut cursor = Octets::with_slice(&[2, 97, 98, 7]);
-/// assert!(get_string(alloc, &mut cursor, 9)?.as_slice() == b"ab".as_slice());
+/// assert_eq!(get_string(alloc, &mut cursor, 9)?.as_slice(), b"ab".as_slice());
 /// assert_eq!(cursor.off(), 3);
 /// ```
 #[inline]
@@ -28,11 +28,11 @@ pub fn literal_once() {}
 /// (RFC 7541, section 5.1).
 ///
 /// ```text
-/// laws::written_read_back();
+/// octets_literal::laws::written_read_back();
 /// let mut bytes = [0, 0, 0];
 /// write_string::<false>(&mut OctetsMut::with_slice(&mut bytes), b"aa")?;
 /// let read = get_string(alloc, &mut Octets::with_slice(&bytes), 2)?;
-/// assert!(read.as_slice() == b"aa".as_slice());
+/// assert_eq!(read.as_slice(), b"aa".as_slice());
 /// ```
 #[inline]
 pub fn written_read_back() {}
@@ -41,9 +41,9 @@ pub fn written_read_back() {}
 /// with one, the bytes begin with no literal of a value within the limit.
 ///
 /// ```text
-/// laws::refused_once();
+/// octets_literal::laws::refused_once();
 /// let read = get_string(alloc, &mut Octets::with_slice(&[2, 97]), 9);
-/// assert!(read.err() == Some(LiteralError::Short));
+/// assert_eq!(read.err(), Some(LiteralError::Short));
 /// ```
 #[inline]
 pub fn refused_once() {}
@@ -52,7 +52,7 @@ pub fn refused_once() {}
 /// error other than `OutOfMemory`.
 ///
 /// ```text
-/// laws::each_decided();
+/// octets_literal::laws::each_decided();
 /// assert!(get_string(alloc, &mut Octets::with_slice(&[0]), 9)?.is_empty());
 /// assert!(get_string(alloc, &mut Octets::with_slice(&[1]), 9).is_err());
 /// ```

@@ -16,7 +16,7 @@ use octets::{BufferTooShortError, OctetsMut, Result};
 /// let mut bytes = [0, 0, 0, 0];
 /// let mut cursor = OctetsMut::with_slice(&mut bytes);
 /// write_string::<false>(&mut cursor, b"aa")?;
-/// assert!(cursor.buf() == [2, 97, 97, 0].as_slice());
+/// assert_eq!(cursor.buf(), [2, 97, 97, 0].as_slice());
 /// ```
 ///
 /// # Requires

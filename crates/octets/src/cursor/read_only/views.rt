@@ -12,14 +12,16 @@ impl<'a> Octets<'a> {
     ghost use Rattle.octets.specs.Cursor.{IsViewOf, Reads};
     ghost use Rattle.octets.specs.Octets.{ReadsPrefixed, RefusesPrefixed};
 
-    /// Returns a cursor over the next `len` bytes, and moves the offset past them. It fails if
-    /// fewer bytes remain.
+    /// Returns a cursor over the next `len` bytes, and advances the offset past them.
+    ///
+    /// It fails if fewer than `len` bytes remain. Then the offset is unchanged.
     ///
     /// ```
     /// let mut cursor = Octets::with_slice(&[1, 2, 3]);
     /// let mut view = cursor.get_bytes(2)?;
-    /// assert_eq!(view.get_u16()?, 258);
+    /// assert_eq!(view.get_u16()?, 0x0102);
     /// assert_eq!(cursor.off(), 2);
+    /// assert_eq!(cursor.get_bytes(2), Err(BufferTooShortError));
     /// ```
     #[tactic(auto, unfolding(crate::specs::Cursor::Reads))]
     pub fn get_bytes(&mut self, len: usize) -> Result<Octets<'a>>
@@ -34,13 +36,14 @@ impl<'a> Octets<'a> {
         Ok(view)
     }
 
-    /// Returns a cursor over the next `len` bytes, and leaves the offset where it is. It fails if
-    /// fewer bytes remain.
+    /// Returns a cursor over the next `len` bytes, and leaves the offset unchanged.
+    ///
+    /// It fails if fewer than `len` bytes remain.
     ///
     /// ```
     /// let cursor = Octets::with_slice(&[1, 2, 3]);
     /// let mut view = cursor.peek_bytes(2)?;
-    /// assert_eq!(view.get_u16()?, 258);
+    /// assert_eq!(view.get_u16()?, 0x0102);
     /// assert_eq!(cursor.off(), 0);
     /// ```
     pub fn peek_bytes(&self, len: usize) -> Result<Octets<'a>>
@@ -50,12 +53,13 @@ impl<'a> Octets<'a> {
         Ok(Octets::with_slice(self.slice(len)?))
     }
 
-    /// Returns the next `len` bytes, and leaves the offset where it is. It fails if fewer bytes
-    /// remain.
+    /// Returns the next `len` bytes, and leaves the offset unchanged.
+    ///
+    /// It fails if fewer than `len` bytes remain.
     ///
     /// ```
     /// let cursor = Octets::with_slice(&[1, 2, 3]);
-    /// assert!(cursor.slice(2)? == [1, 2].as_slice());
+    /// assert_eq!(cursor.slice(2)?, [1, 2].as_slice());
     /// assert_eq!(cursor.off(), 0);
     /// ```
     pub fn slice(&self, len: usize) -> Result<&'a [u8]>
@@ -69,13 +73,13 @@ impl<'a> Octets<'a> {
         Ok(&all[self.off..self.off + len])
     }
 
-    /// Returns the last `len` bytes of the whole buffer, and leaves the offset where it is. It
-    /// fails if fewer than `len` bytes remain from the offset on, even if the whole buffer has as
-    /// many.
+    /// Returns the last `len` bytes of the buffer, and leaves the offset unchanged.
+    ///
+    /// It fails if fewer than `len` bytes remain from the offset on.
     ///
     /// ```
     /// let cursor = Octets::with_slice(&[1, 2, 3]);
-    /// assert!(cursor.slice_last(2)? == [2, 3].as_slice());
+    /// assert_eq!(cursor.slice_last(2)?, [2, 3].as_slice());
     /// ```
     pub fn slice_last(&self, len: usize) -> Result<&'a [u8]>
         ensures fits { IsOk result ↔ (len ≤ length (rest self.now)) }
@@ -89,15 +93,16 @@ impl<'a> Octets<'a> {
         Ok(&all[all.len() - len..])
     }
 
-    /// Reads a length of one byte, and returns a cursor over as many bytes as it says.
+    /// Reads a length of one byte, and returns a cursor over that many bytes after it. It advances
+    /// the offset past both.
     ///
-    /// If fewer bytes follow, the call fails and leaves the offset after the length. If no byte
-    /// remains, it fails and leaves the offset where it was.
+    /// It fails if no byte remains; then the offset is unchanged. It also fails if fewer bytes
+    /// follow the length than the length says; then the offset is after the length.
     ///
     /// ```
     /// let mut cursor = Octets::with_slice(&[2, 97, 98, 0]);
     /// let run = cursor.get_bytes_with_u8_length()?;
-    /// assert!(run.buf() == b"ab".as_slice());
+    /// assert_eq!(run.buf(), b"ab".as_slice());
     /// assert_eq!(cursor.off(), 3);
     /// ```
     #[tactic(auto, using(crate::proofs::Cursors::runs))]
@@ -121,15 +126,16 @@ impl<'a> Octets<'a> {
         self.get_bytes(usize::from(len))
     }
 
-    /// Reads a length of two bytes, and returns a cursor over as many bytes as it says.
+    /// Reads a length of two bytes, and returns a cursor over that many bytes after it. It advances
+    /// the offset past both.
     ///
-    /// If fewer bytes follow, the call fails and leaves the offset after the length. If the length
-    /// is incomplete, it fails and leaves the offset where it was.
+    /// It fails if fewer than two bytes remain; then the offset is unchanged. It also fails if
+    /// fewer bytes follow the length than the length says; then the offset is after the length.
     ///
     /// ```
     /// let mut cursor = Octets::with_slice(&[0, 2, 97, 98, 0]);
     /// let run = cursor.get_bytes_with_u16_length()?;
-    /// assert!(run.buf() == b"ab".as_slice());
+    /// assert_eq!(run.buf(), b"ab".as_slice());
     /// assert_eq!(cursor.off(), 4);
     /// ```
     #[tactic(auto, using(crate::proofs::Cursors::runs))]
@@ -153,15 +159,16 @@ impl<'a> Octets<'a> {
         self.get_bytes(usize::from(len))
     }
 
-    /// Reads a length that is a varint, and returns a cursor over as many bytes as it says.
+    /// Reads a length that is a varint, and returns a cursor over that many bytes after it. It
+    /// advances the offset past both.
     ///
-    /// If fewer bytes follow, the call fails and leaves the offset after the varint. If the varint
-    /// is incomplete, it fails and leaves the offset where it was.
+    /// It fails if no complete varint remains; then the offset is unchanged. It also fails if fewer
+    /// bytes follow the length than the length says; then the offset is after the length.
     ///
     /// ```
     /// let mut cursor = Octets::with_slice(&[0x40, 2, 97, 98, 0]);
     /// let run = cursor.get_bytes_with_varint_length()?;
-    /// assert!(run.buf() == b"ab".as_slice());
+    /// assert_eq!(run.buf(), b"ab".as_slice());
     /// assert_eq!(cursor.off(), 4);
     /// ```
     pub fn get_bytes_with_varint_length(&mut self) -> Result<Octets<'a>>

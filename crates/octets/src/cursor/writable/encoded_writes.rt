@@ -12,19 +12,20 @@ use crate::huffman::encode::put_words;
 impl<B: Buffer> Cursor<B> {
     ghost use Rattle.octets.specs.Cursor.{bytes, holder, position, rest, Keeps, Writes};
 
-    /// Writes the Huffman encoding of `v` (RFC 7541, section 5.2), and moves the offset past it. If
-    /// `LOWER_CASE` is true, it encodes `v` in lower case.
+    /// Writes the Huffman encoding of `v` (RFC 7541, section 5.2), or of `v` in lower case if
+    /// `LOWER_CASE` is true, and advances the offset past it.
     ///
-    /// If the encoding is longer than `cap()`, the call fails. It has then written a prefix of the
-    /// encoding, and the offset is after that prefix. The encoding is written in pieces of eight
-    /// bytes, then four bytes, then single bytes, and the prefix has as many of these pieces as
-    /// fit.
+    /// It writes the encoding in pieces of eight bytes, then one piece of four bytes if at least
+    /// four are left, then single bytes. It fails if fewer bytes remain than the encoding has. Then
+    /// the pieces that fit before the first one that doesn't are written, and the offset is after
+    /// them. To avoid that, call [`huffman_encoding_len`](crate::huffman_encoding_len) first, or
+    /// write to a buffer that you can discard.
     ///
     /// ```
     /// let mut bytes = [0, 0, 0];
     /// let mut cursor = OctetsMut::with_slice(&mut bytes);
-    /// cursor.put_huffman_encoded::<false>(b"aa")?;
-    /// assert_eq!(cursor.off(), 2);
+    /// cursor.put_huffman_encoded::<true>(b"AA")?;
+    /// assert_eq!(cursor.buf(), [0x18, 0xff, 0].as_slice());
     /// ```
     #[inline(always)]
     #[tactic(auto, using(crate::proofs::Cursors::texts))]

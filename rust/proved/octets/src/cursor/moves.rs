@@ -35,13 +35,16 @@ impl<B: Bytes> Cursor<B> {
         }
     }
 
-    /// Moves the offset back by `len` bytes. It fails if the offset is less than `len`.
+    /// Moves the offset back by `len` bytes.
+    ///
+    /// It fails if the offset is less than `len`. Then the offset is unchanged.
     ///
     /// ```text
     /// let mut cursor = Octets::with_slice(&[1, 2, 3]);
     /// cursor.skip(2)?;
     /// cursor.rewind(1)?;
-    /// assert_eq!(cursor.get_u8()?, 2);
+    /// assert_eq!(cursor.off(), 1);
+    /// assert_eq!(cursor.rewind(2), Err(BufferTooShortError));
     /// ```
     #[inline]
     pub fn rewind(&mut self, len: usize) -> Result<()> {
@@ -52,12 +55,15 @@ impl<B: Bytes> Cursor<B> {
         Ok(())
     }
 
-    /// Moves the offset forward by `skip` bytes. It fails if fewer bytes remain.
+    /// Advances the offset by `skip` bytes.
+    ///
+    /// It fails if fewer than `skip` bytes remain. Then the offset is unchanged.
     ///
     /// ```text
     /// let mut cursor = Octets::with_slice(&[1, 2, 3]);
     /// cursor.skip(2)?;
-    /// assert_eq!(cursor.get_u8()?, 3);
+    /// assert_eq!(cursor.off(), 2);
+    /// assert_eq!(cursor.skip(2), Err(BufferTooShortError));
     /// ```
     #[inline]
     pub fn skip(&mut self, skip: usize) -> Result<()> {

@@ -13,7 +13,7 @@ use std::fmt;
 pub type Octets<'a> = Cursor<&'a [u8]>;
 
 impl<'a> Octets<'a> {
-    /// Returns a cursor over `buf`, at its start.
+    /// Makes a cursor over `buf`, with the offset 0.
     ///
     /// ```text
     /// let cursor = Octets::with_slice(&[1, 2, 3]);
@@ -25,12 +25,12 @@ impl<'a> Octets<'a> {
         Cursor { buf, off: 0 }
     }
 
-    /// Returns the whole buffer.
+    /// Returns the whole buffer, including the bytes before the offset.
     ///
     /// ```text
     /// let mut cursor = Octets::with_slice(&[1, 2, 3]);
     /// cursor.skip(2)?;
-    /// assert!(cursor.buf() == [1, 2, 3].as_slice());
+    /// assert_eq!(cursor.buf(), [1, 2, 3].as_slice());
     /// ```
     #[inline]
     pub fn buf(&self) -> &'a [u8] {

@@ -35,7 +35,7 @@ impl<B: Buffer> Cursor<B> {
     /// let mut cursor = OctetsMut::with_slice(&mut bytes);
     /// cursor.skip(1)?;
     /// cursor.as_mut()[0] = 9;
-    /// assert!(cursor.buf() == [1, 9, 3].as_slice());
+    /// assert_eq!(cursor.buf(), [1, 9, 3].as_slice());
     /// ```
     pub fn as_mut(&mut self) -> &mut [u8]
         ensures* writes_back { sem 𝓛 (LendsPart B.row B.Bytes self.entry
@@ -55,7 +55,7 @@ impl<B: Buffer> Cursor<B> {
     /// let mut bytes = [0, 0, 0];
     /// let mut cursor = OctetsMut::with_slice(&mut bytes);
     /// cursor.lend(2).copy_from_slice(b"ab");
-    /// assert!(cursor.buf() == [97, 98, 0].as_slice());
+    /// assert_eq!(cursor.buf(), [97, 98, 0].as_slice());
     /// assert_eq!(cursor.off(), 2);
     /// ```
     pub fn lend(&mut self, len: usize) -> &mut [u8]
@@ -101,7 +101,7 @@ impl<B: Buffer> Cursor<B> {
     /// let mut bytes = [0, 0, 0];
     /// let mut cursor = OctetsMut::with_slice(&mut bytes);
     /// cursor.lend_last(2).copy_from_slice(b"ab");
-    /// assert!(cursor.buf() == [0, 97, 98].as_slice());
+    /// assert_eq!(cursor.buf(), [0, 97, 98].as_slice());
     /// ```
     pub fn lend_last(&mut self, len: usize) -> &mut [u8]
         requires { len ≤ length (bytes self.old) }

@@ -6,14 +6,16 @@ use crate::cursor::read_only::Octets;
 use crate::error::{BufferTooShortError, Result};
 
 impl<'a> Octets<'a> {
-    /// Returns a cursor over the next `len` bytes, and moves the offset past them. It fails if
-    /// fewer bytes remain.
+    /// Returns a cursor over the next `len` bytes, and advances the offset past them.
+    ///
+    /// It fails if fewer than `len` bytes remain. Then the offset is unchanged.
     ///
     /// ```text
     /// let mut cursor = Octets::with_slice(&[1, 2, 3]);
     /// let mut view = cursor.get_bytes(2)?;
-    /// assert_eq!(view.get_u16()?, 258);
+    /// assert_eq!(view.get_u16()?, 0x0102);
     /// assert_eq!(cursor.off(), 2);
+    /// assert_eq!(cursor.get_bytes(2), Err(BufferTooShortError));
     /// ```
     #[inline]
     pub fn get_bytes(&mut self, len: usize) -> Result<Octets<'a>> {
@@ -22,13 +24,14 @@ impl<'a> Octets<'a> {
         Ok(view)
     }
 
-    /// Returns a cursor over the next `len` bytes, and leaves the offset where it is. It fails if
-    /// fewer bytes remain.
+    /// Returns a cursor over the next `len` bytes, and leaves the offset unchanged.
+    ///
+    /// It fails if fewer than `len` bytes remain.
     ///
     /// ```text
     /// let cursor = Octets::with_slice(&[1, 2, 3]);
     /// let mut view = cursor.peek_bytes(2)?;
-    /// assert_eq!(view.get_u16()?, 258);
+    /// assert_eq!(view.get_u16()?, 0x0102);
     /// assert_eq!(cursor.off(), 0);
     /// ```
     #[inline]
@@ -36,12 +39,13 @@ impl<'a> Octets<'a> {
         Ok(Octets::with_slice(self.slice(len)?))
     }
 
-    /// Returns the next `len` bytes, and leaves the offset where it is. It fails if fewer bytes
-    /// remain.
+    /// Returns the next `len` bytes, and leaves the offset unchanged.
+    ///
+    /// It fails if fewer than `len` bytes remain.
     ///
     /// ```text
     /// let cursor = Octets::with_slice(&[1, 2, 3]);
-    /// assert!(cursor.slice(2)? == [1, 2].as_slice());
+    /// assert_eq!(cursor.slice(2)?, [1, 2].as_slice());
     /// assert_eq!(cursor.off(), 0);
     /// ```
     #[inline]
@@ -53,13 +57,13 @@ impl<'a> Octets<'a> {
         Ok(&all[self.off..self.off + len])
     }
 
-    /// Returns the last `len` bytes of the whole buffer, and leaves the offset where it is. It
-    /// fails if fewer than `len` bytes remain from the offset on, even if the whole buffer has as
-    /// many.
+    /// Returns the last `len` bytes of the buffer, and leaves the offset unchanged.
+    ///
+    /// It fails if fewer than `len` bytes remain from the offset on.
     ///
     /// ```text
     /// let cursor = Octets::with_slice(&[1, 2, 3]);
-    /// assert!(cursor.slice_last(2)? == [2, 3].as_slice());
+    /// assert_eq!(cursor.slice_last(2)?, [2, 3].as_slice());
     /// ```
     #[inline]
     pub fn slice_last(&self, len: usize) -> Result<&'a [u8]> {
@@ -70,15 +74,16 @@ impl<'a> Octets<'a> {
         Ok(&all[all.len() - len..])
     }
 
-    /// Reads a length of one byte, and returns a cursor over as many bytes as it says.
+    /// Reads a length of one byte, and returns a cursor over that many bytes after it. It advances
+    /// the offset past both.
     ///
-    /// If fewer bytes follow, the call fails and leaves the offset after the length. If no byte
-    /// remains, it fails and leaves the offset where it was.
+    /// It fails if no byte remains; then the offset is unchanged. It also fails if fewer bytes
+    /// follow the length than the length says; then the offset is after the length.
     ///
     /// ```text
     /// let mut cursor = Octets::with_slice(&[2, 97, 98, 0]);
     /// let run = cursor.get_bytes_with_u8_length()?;
-    /// assert!(run.buf() == b"ab".as_slice());
+    /// assert_eq!(run.buf(), b"ab".as_slice());
     /// assert_eq!(cursor.off(), 3);
     /// ```
     #[inline]
@@ -87,15 +92,16 @@ impl<'a> Octets<'a> {
         self.get_bytes(usize::from(len))
     }
 
-    /// Reads a length of two bytes, and returns a cursor over as many bytes as it says.
+    /// Reads a length of two bytes, and returns a cursor over that many bytes after it. It advances
+    /// the offset past both.
     ///
-    /// If fewer bytes follow, the call fails and leaves the offset after the length. If the length
-    /// is incomplete, it fails and leaves the offset where it was.
+    /// It fails if fewer than two bytes remain; then the offset is unchanged. It also fails if
+    /// fewer bytes follow the length than the length says; then the offset is after the length.
     ///
     /// ```text
     /// let mut cursor = Octets::with_slice(&[0, 2, 97, 98, 0]);
     /// let run = cursor.get_bytes_with_u16_length()?;
-    /// assert!(run.buf() == b"ab".as_slice());
+    /// assert_eq!(run.buf(), b"ab".as_slice());
     /// assert_eq!(cursor.off(), 4);
     /// ```
     #[inline]
@@ -104,15 +110,16 @@ impl<'a> Octets<'a> {
         self.get_bytes(usize::from(len))
     }
 
-    /// Reads a length that is a varint, and returns a cursor over as many bytes as it says.
+    /// Reads a length that is a varint, and returns a cursor over that many bytes after it. It
+    /// advances the offset past both.
     ///
-    /// If fewer bytes follow, the call fails and leaves the offset after the varint. If the varint
-    /// is incomplete, it fails and leaves the offset where it was.
+    /// It fails if no complete varint remains; then the offset is unchanged. It also fails if fewer
+    /// bytes follow the length than the length says; then the offset is after the length.
     ///
     /// ```text
     /// let mut cursor = Octets::with_slice(&[0x40, 2, 97, 98, 0]);
     /// let run = cursor.get_bytes_with_varint_length()?;
-    /// assert!(run.buf() == b"ab".as_slice());
+    /// assert_eq!(run.buf(), b"ab".as_slice());
     /// assert_eq!(cursor.off(), 4);
     /// ```
     #[inline]

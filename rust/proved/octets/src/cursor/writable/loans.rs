@@ -65,9 +65,9 @@ impl<'a> OctetsMut<'a> {
         view_of(self.lend_part(part))
     }
 
-    /// Lends the next `len` bytes for writing, and leaves the offset where it is.
+    /// Lends the next `len` bytes for writing, and leaves the offset unchanged.
     ///
-    /// It fails if fewer bytes remain.
+    /// It fails if fewer than `len` bytes remain.
     ///
     /// ```text
     /// let mut bytes = [1, 2, 3];
@@ -82,17 +82,15 @@ impl<'a> OctetsMut<'a> {
         self.lend_part(part)
     }
 
-    /// Lends the last `len` bytes of the whole buffer for writing, and leaves the offset where it
-    /// is.
+    /// Lends the last `len` bytes of the buffer for writing, and leaves the offset unchanged.
     ///
-    /// It fails if fewer than `len` bytes remain from the offset on, even if the whole buffer has
-    /// as many.
+    /// It fails if fewer than `len` bytes remain from the offset on.
     ///
     /// ```text
     /// let mut bytes = [1, 2, 3];
     /// let mut cursor = OctetsMut::with_slice(&mut bytes);
     /// cursor.slice_last(1)?[0] = 9;
-    /// assert!(cursor.buf() == [1, 2, 9].as_slice());
+    /// assert_eq!(cursor.buf(), [1, 2, 9].as_slice());
     /// ```
     #[inline]
     pub fn slice_last(&mut self, len: usize) -> Result<&mut [u8]>// The proof is hand-written, so any edit of the body breaks it: see CONTRIBUTING.md.
@@ -101,16 +99,15 @@ impl<'a> OctetsMut<'a> {
         self.lend_part(part)
     }
 
-    /// Lends the next `len` bytes for writing, as a cursor at its start, and moves the offset past
-    /// them.
+    /// Returns a cursor for writing over the next `len` bytes, and advances the offset past them.
     ///
-    /// It fails if fewer bytes remain.
+    /// It fails if fewer than `len` bytes remain. Then the offset is unchanged.
     ///
     /// ```text
     /// let mut bytes = [0, 0, 0];
     /// let mut cursor = OctetsMut::with_slice(&mut bytes);
-    /// cursor.get_bytes_mut(2)?.write_u16(258)?;
-    /// assert!(cursor.buf() == [1, 2, 0].as_slice());
+    /// cursor.get_bytes_mut(2)?.put_u16(0x0102)?;
+    /// assert_eq!(cursor.buf(), [1, 2, 0].as_slice());
     /// assert_eq!(cursor.off(), 2);
     /// ```
     #[inline]
@@ -120,16 +117,15 @@ impl<'a> OctetsMut<'a> {
         self.lend_view(part)
     }
 
-    /// Lends the next `len` bytes for writing, as a cursor at its start, and leaves the offset
-    /// where it is.
+    /// Returns a cursor for writing over the next `len` bytes, and leaves the offset unchanged.
     ///
-    /// It fails if fewer bytes remain.
+    /// It fails if fewer than `len` bytes remain.
     ///
     /// ```text
     /// let mut bytes = [0, 0, 0];
     /// let mut cursor = OctetsMut::with_slice(&mut bytes);
-    /// cursor.peek_bytes_mut(2)?.write_u16(258)?;
-    /// assert_eq!(cursor.get_u16()?, 258);
+    /// cursor.peek_bytes_mut(2)?.put_u16(0x0102)?;
+    /// assert_eq!(cursor.get_u16()?, 0x0102);
     /// ```
     #[inline]
     pub fn peek_bytes_mut(&mut self, len: usize) -> Result<OctetsMut<'_>>// The proof is hand-written, so any edit of the body breaks it: see CONTRIBUTING.md.
@@ -138,9 +134,8 @@ impl<'a> OctetsMut<'a> {
         self.lend_view(ahead)
     }
 
-    /// Splits the whole buffer at position `off`. It lends the bytes before that position and the
-    /// bytes from it on for writing, each as a cursor at its start. The result doesn't depend on
-    /// the cursor's own offset, which is unchanged.
+    /// Returns two cursors for writing: one over the first `off` bytes of the whole buffer, and one
+    /// over the bytes after them. The offset is ignored and unchanged.
     ///
     /// It fails if the buffer has fewer than `off` bytes.
     ///
@@ -148,8 +143,8 @@ impl<'a> OctetsMut<'a> {
     /// let mut bytes = [1, 2, 3];
     /// let mut cursor = OctetsMut::with_slice(&mut bytes);
     /// let (left, right) = cursor.split_at(1)?;
-    /// assert_eq!(left.len(), 1);
-    /// assert_eq!(right.len(), 2);
+    /// assert_eq!(left.buf(), [1].as_slice());
+    /// assert_eq!(right.buf(), [2, 3].as_slice());
     /// ```
     #[inline]
     pub fn split_at(&mut self, off: usize) -> Result<(OctetsMut<'_>, OctetsMut<'_>)>// The proof is hand-written, so any edit of the body breaks it: see CONTRIBUTING.md.
@@ -158,15 +153,16 @@ impl<'a> OctetsMut<'a> {
         views_of(parts)
     }
 
-    /// Writes `v` as one byte, moves the offset past it, and lends this byte for writing.
+    /// Writes a number of one byte, advances the offset past it, and returns a mutable slice of the
+    /// written byte.
     ///
-    /// It fails if no byte remains, and then writes nothing.
+    /// It fails if no byte remains. Then nothing is written, and the offset is unchanged.
     ///
     /// ```text
     /// let mut bytes = [0, 0];
     /// let mut cursor = OctetsMut::with_slice(&mut bytes);
     /// cursor.put_u8(7)?;
-    /// assert!(cursor.buf() == [7, 0].as_slice());
+    /// assert_eq!(cursor.buf(), [7, 0].as_slice());
     /// ```
     #[inline]
     pub fn put_u8(&mut self, v: u8) -> Result<&mut [u8]>// The proof is hand-written, so any edit of the body breaks it: see CONTRIBUTING.md.
@@ -175,16 +171,17 @@ impl<'a> OctetsMut<'a> {
         self.lend_part(part)
     }
 
-    /// Writes `v` as two bytes in network order, moves the offset past them, and lends these bytes
-    /// for writing.
+    /// Writes a number of two bytes, most significant byte first, advances the offset past it, and
+    /// returns a mutable slice of the written bytes.
     ///
-    /// It fails if fewer than 2 bytes remain, and then writes nothing.
+    /// It fails if fewer than two bytes remain. Then nothing is written, and the offset is
+    /// unchanged.
     ///
     /// ```text
     /// let mut bytes = [0, 0, 0];
     /// let mut cursor = OctetsMut::with_slice(&mut bytes);
-    /// cursor.put_u16(258)?[1] = 9;
-    /// assert!(cursor.buf() == [1, 9, 0].as_slice());
+    /// cursor.put_u16(0x0102)?[1] = 9;
+    /// assert_eq!(cursor.buf(), [1, 9, 0].as_slice());
     /// ```
     #[inline]
     pub fn put_u16(&mut self, v: u16) -> Result<&mut [u8]>// The proof is hand-written, so any edit of the body breaks it: see CONTRIBUTING.md.
@@ -193,16 +190,17 @@ impl<'a> OctetsMut<'a> {
         self.lend_part(part)
     }
 
-    /// Writes the lowest three bytes of `v` in network order, moves the offset past them, and lends
-    /// these bytes for writing.
+    /// Writes the least significant three bytes of a number, most significant byte first, advances
+    /// the offset past them, and returns a mutable slice of the written bytes.
     ///
-    /// It fails if fewer than 3 bytes remain, and then writes nothing.
+    /// It fails if fewer than three bytes remain. Then nothing is written, and the offset is
+    /// unchanged.
     ///
     /// ```text
     /// let mut bytes = [0, 0, 0];
     /// let mut cursor = OctetsMut::with_slice(&mut bytes);
-    /// cursor.put_u24(0x010203)?;
-    /// assert!(cursor.buf() == [1, 2, 3].as_slice());
+    /// cursor.put_u24(0x09010203)?;
+    /// assert_eq!(cursor.buf(), [1, 2, 3].as_slice());
     /// ```
     #[inline]
     pub fn put_u24(&mut self, v: u32) -> Result<&mut [u8]>// The proof is hand-written, so any edit of the body breaks it: see CONTRIBUTING.md.
@@ -211,16 +209,17 @@ impl<'a> OctetsMut<'a> {
         self.lend_part(part)
     }
 
-    /// Writes `v` as four bytes in network order, moves the offset past them, and lends these bytes
-    /// for writing.
+    /// Writes a number of four bytes, most significant byte first, advances the offset past it, and
+    /// returns a mutable slice of the written bytes.
     ///
-    /// It fails if fewer than 4 bytes remain, and then writes nothing.
+    /// It fails if fewer than four bytes remain. Then nothing is written, and the offset is
+    /// unchanged.
     ///
     /// ```text
     /// let mut bytes = [0, 0, 0, 0];
     /// let mut cursor = OctetsMut::with_slice(&mut bytes);
     /// cursor.put_u32(0x01020304)?;
-    /// assert!(cursor.buf() == [1, 2, 3, 4].as_slice());
+    /// assert_eq!(cursor.buf(), [1, 2, 3, 4].as_slice());
     /// ```
     #[inline]
     pub fn put_u32(&mut self, v: u32) -> Result<&mut [u8]>// The proof is hand-written, so any edit of the body breaks it: see CONTRIBUTING.md.
@@ -229,16 +228,17 @@ impl<'a> OctetsMut<'a> {
         self.lend_part(part)
     }
 
-    /// Writes `v` as eight bytes in network order, moves the offset past them, and lends these
-    /// bytes for writing.
+    /// Writes a number of eight bytes, most significant byte first, advances the offset past it,
+    /// and returns a mutable slice of the written bytes.
     ///
-    /// It fails if fewer than 8 bytes remain, and then writes nothing.
+    /// It fails if fewer than eight bytes remain. Then nothing is written, and the offset is
+    /// unchanged.
     ///
     /// ```text
     /// let mut bytes = [9, 9, 9, 9, 9, 9, 9, 9];
     /// let mut cursor = OctetsMut::with_slice(&mut bytes);
-    /// cursor.put_u64(258)?;
-    /// assert!(cursor.buf() == [0, 0, 0, 0, 0, 0, 1, 2].as_slice());
+    /// cursor.put_u64(0x0102)?;
+    /// assert_eq!(cursor.buf(), [0, 0, 0, 0, 0, 0, 1, 2].as_slice());
     /// ```
     #[inline]
     pub fn put_u64(&mut self, v: u64) -> Result<&mut [u8]>// The proof is hand-written, so any edit of the body breaks it: see CONTRIBUTING.md.
@@ -256,7 +256,7 @@ impl<'a> OctetsMut<'a> {
     /// let mut bytes = [0, 0, 0];
     /// let mut cursor = OctetsMut::with_slice(&mut bytes);
     /// assert_eq!(cursor.put_varint(15293)?.len(), 2);
-    /// assert!(cursor.buf() == [0x7b, 0xbd, 0].as_slice());
+    /// assert_eq!(cursor.buf(), [0x7b, 0xbd, 0].as_slice());
     /// ```
     ///
     /// # Requires
@@ -282,7 +282,7 @@ impl<'a> OctetsMut<'a> {
     /// let mut bytes = [0, 0, 0];
     /// let mut cursor = OctetsMut::with_slice(&mut bytes);
     /// cursor.put_varint_with_len(37, 2)?;
-    /// assert!(cursor.buf() == [0x40, 0x25, 0].as_slice());
+    /// assert_eq!(cursor.buf(), [0x40, 0x25, 0].as_slice());
     /// ```
     ///
     /// # Requires
@@ -303,6 +303,13 @@ impl<'a> OctetsMut<'a> {
 
     /// Writes the lowest `len` bytes of `v`, with the mark of the width over the top two bits, moves
     /// the offset past them, and lends these bytes for writing. `len` must be 1, 2, 4 or 8.
+    ///
+    /// ```text
+    /// let mut bytes = [0, 0, 0];
+    /// let mut cursor = OctetsMut::with_slice(&mut bytes);
+    /// cursor.put_marked(0x123456, 2)?;
+    /// assert_eq!(cursor.buf(), [0x74, 0x56, 0].as_slice());
+    /// ```
     ///
     /// # Requires
     ///

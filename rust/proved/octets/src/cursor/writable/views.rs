@@ -9,14 +9,15 @@ use crate::cursor::read_only::Octets;
 use crate::error::{BufferTooShortError, Result};
 
 impl<B: Buffer> Cursor<B> {
-    /// Returns a cursor over the next `len` bytes, and leaves the offset where it is. It fails if
-    /// fewer bytes remain.
+    /// Returns a cursor over the next `len` bytes, and leaves the offset unchanged.
+    ///
+    /// It fails if fewer than `len` bytes remain.
     ///
     /// ```text
     /// let mut bytes = [1, 2, 3];
     /// let mut cursor = OctetsMut::with_slice(&mut bytes);
     /// let mut view = cursor.peek_bytes(2)?;
-    /// assert_eq!(view.get_u16()?, 258);
+    /// assert_eq!(view.get_u16()?, 0x0102);
     /// assert_eq!(cursor.off(), 0);
     /// ```
     #[inline]
@@ -27,15 +28,17 @@ impl<B: Buffer> Cursor<B> {
         Ok(Octets::with_slice(&self.as_ref()[..len]))
     }
 
-    /// Returns a cursor over the next `len` bytes, and moves the offset past them. It fails if
-    /// fewer bytes remain.
+    /// Returns a cursor over the next `len` bytes, and advances the offset past them.
+    ///
+    /// It fails if fewer than `len` bytes remain. Then the offset is unchanged.
     ///
     /// ```text
     /// let mut bytes = [1, 2, 3];
     /// let mut cursor = OctetsMut::with_slice(&mut bytes);
     /// let mut view = cursor.get_bytes(2)?;
-    /// assert_eq!(view.get_u16()?, 258);
+    /// assert_eq!(view.get_u16()?, 0x0102);
     /// assert_eq!(cursor.off(), 2);
+    /// assert_eq!(cursor.get_bytes(2), Err(BufferTooShortError));
     /// ```
     #[inline]
     pub fn get_bytes(&mut self, len: usize) -> Result<Octets<'_>> {
@@ -47,16 +50,17 @@ impl<B: Buffer> Cursor<B> {
         Ok(Octets::with_slice(&self.buf.as_slice()[from..from + len]))
     }
 
-    /// Reads a length of one byte, and returns a cursor over as many bytes as it says.
+    /// Reads a length of one byte, and returns a cursor over that many bytes after it. It advances
+    /// the offset past both.
     ///
-    /// If fewer bytes follow, the call fails and leaves the offset after the length. If no byte
-    /// remains, it fails and leaves the offset where it was.
+    /// It fails if no byte remains; then the offset is unchanged. It also fails if fewer bytes
+    /// follow the length than the length says; then the offset is after the length.
     ///
     /// ```text
     /// let mut bytes = [2, 97, 98, 0];
     /// let mut cursor = OctetsMut::with_slice(&mut bytes);
     /// let run = cursor.get_bytes_with_u8_length()?;
-    /// assert!(run.buf() == b"ab".as_slice());
+    /// assert_eq!(run.buf(), b"ab".as_slice());
     /// assert_eq!(cursor.off(), 3);
     /// ```
     #[inline]
@@ -65,16 +69,17 @@ impl<B: Buffer> Cursor<B> {
         self.get_bytes(usize::from(len))
     }
 
-    /// Reads a length of two bytes, and returns a cursor over as many bytes as it says.
+    /// Reads a length of two bytes, and returns a cursor over that many bytes after it. It advances
+    /// the offset past both.
     ///
-    /// If fewer bytes follow, the call fails and leaves the offset after the length. If the length
-    /// is incomplete, it fails and leaves the offset where it was.
+    /// It fails if fewer than two bytes remain; then the offset is unchanged. It also fails if
+    /// fewer bytes follow the length than the length says; then the offset is after the length.
     ///
     /// ```text
     /// let mut bytes = [0, 2, 97, 98, 0];
     /// let mut cursor = OctetsMut::with_slice(&mut bytes);
     /// let run = cursor.get_bytes_with_u16_length()?;
-    /// assert!(run.buf() == b"ab".as_slice());
+    /// assert_eq!(run.buf(), b"ab".as_slice());
     /// assert_eq!(cursor.off(), 4);
     /// ```
     #[inline]
@@ -83,16 +88,17 @@ impl<B: Buffer> Cursor<B> {
         self.get_bytes(usize::from(len))
     }
 
-    /// Reads a length that is a varint, and returns a cursor over as many bytes as it says.
+    /// Reads a length that is a varint, and returns a cursor over that many bytes after it. It
+    /// advances the offset past both.
     ///
-    /// If fewer bytes follow, the call fails and leaves the offset after the varint. If the varint
-    /// is incomplete, it fails and leaves the offset where it was.
+    /// It fails if no complete varint remains; then the offset is unchanged. It also fails if fewer
+    /// bytes follow the length than the length says; then the offset is after the length.
     ///
     /// ```text
     /// let mut bytes = [0x40, 2, 97, 98, 0];
     /// let mut cursor = OctetsMut::with_slice(&mut bytes);
     /// let run = cursor.get_bytes_with_varint_length()?;
-    /// assert!(run.buf() == b"ab".as_slice());
+    /// assert_eq!(run.buf(), b"ab".as_slice());
     /// assert_eq!(cursor.off(), 4);
     /// ```
     #[inline]

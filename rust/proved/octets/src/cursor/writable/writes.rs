@@ -15,16 +15,17 @@ use crate::error::{BufferTooShortError, Result};
 /// whose contract counts bytes, `bytes` for one whose contract is about the whole buffer, and
 /// `keeps` for one that makes several calls, each of which can fail.
 impl<B: Buffer> Cursor<B> {
-    /// Writes all bytes of `v`, and moves the offset past them.
+    /// Writes all of `v`, and advances the offset past it.
     ///
-    /// An empty `v` always fits.
+    /// It fails if fewer bytes remain than `v` has. Then nothing is written, and the offset is
+    /// unchanged.
     ///
     /// ```text
     /// let mut bytes = [0, 0, 0];
     /// let mut cursor = OctetsMut::with_slice(&mut bytes);
     /// cursor.put_bytes(b"ab")?;
-    /// assert!(cursor.put_bytes(b"cd").is_err());
-    /// assert!(cursor.buf() == [97, 98, 0].as_slice());
+    /// assert_eq!(cursor.put_bytes(b"cd"), Err(BufferTooShortError));
+    /// assert_eq!(cursor.buf(), [97, 98, 0].as_slice());
     /// ```
     #[inline(always)]
     pub fn put_bytes(&mut self, v: &[u8]) -> Result<()> {
@@ -69,7 +70,7 @@ impl<B: Buffer> Cursor<B> {
     /// let mut bytes = [0, 0];
     /// let mut cursor = OctetsMut::with_slice(&mut bytes);
     /// cursor.write_u8(7)?;
-    /// assert!(cursor.buf() == [7, 0].as_slice());
+    /// assert_eq!(cursor.buf(), [7, 0].as_slice());
     /// ```
     #[inline]
     pub fn write_u8(&mut self, v: u8) -> Result<()> {
@@ -81,8 +82,8 @@ impl<B: Buffer> Cursor<B> {
     /// ```text
     /// let mut bytes = [0, 0, 0];
     /// let mut cursor = OctetsMut::with_slice(&mut bytes);
-    /// cursor.write_u16(258)?;
-    /// assert!(cursor.buf() == [1, 2, 0].as_slice());
+    /// cursor.write_u16(0x0102)?;
+    /// assert_eq!(cursor.buf(), [1, 2, 0].as_slice());
     /// ```
     #[inline]
     pub fn write_u16(&mut self, v: u16) -> Result<()> {
@@ -96,7 +97,7 @@ impl<B: Buffer> Cursor<B> {
     /// let mut bytes = [0, 0, 0];
     /// let mut cursor = OctetsMut::with_slice(&mut bytes);
     /// cursor.write_u24(0x010203)?;
-    /// assert!(cursor.buf() == [1, 2, 3].as_slice());
+    /// assert_eq!(cursor.buf(), [1, 2, 3].as_slice());
     /// ```
     #[inline]
     pub fn write_u24(&mut self, v: u32) -> Result<()> {
@@ -109,7 +110,7 @@ impl<B: Buffer> Cursor<B> {
     /// let mut bytes = [0, 0, 0, 0];
     /// let mut cursor = OctetsMut::with_slice(&mut bytes);
     /// cursor.write_u32(0x01020304)?;
-    /// assert!(cursor.buf() == [1, 2, 3, 4].as_slice());
+    /// assert_eq!(cursor.buf(), [1, 2, 3, 4].as_slice());
     /// ```
     #[inline]
     pub fn write_u32(&mut self, v: u32) -> Result<()> {
@@ -122,8 +123,8 @@ impl<B: Buffer> Cursor<B> {
     /// ```text
     /// let mut bytes = [9, 9, 9, 9, 9, 9, 9, 9];
     /// let mut cursor = OctetsMut::with_slice(&mut bytes);
-    /// cursor.write_u64(258)?;
-    /// assert!(cursor.buf() == [0, 0, 0, 0, 0, 0, 1, 2].as_slice());
+    /// cursor.write_u64(0x0102)?;
+    /// assert_eq!(cursor.buf(), [0, 0, 0, 0, 0, 0, 1, 2].as_slice());
     /// ```
     #[inline]
     pub fn write_u64(&mut self, v: u64) -> Result<()> {
@@ -138,7 +139,7 @@ impl<B: Buffer> Cursor<B> {
     /// let mut bytes = [0, 0, 0];
     /// let mut cursor = OctetsMut::with_slice(&mut bytes);
     /// cursor.write_varint_with_len(37, 2)?;
-    /// assert!(cursor.buf() == [0x40, 0x25, 0].as_slice());
+    /// assert_eq!(cursor.buf(), [0x40, 0x25, 0].as_slice());
     /// ```
     ///
     /// # Requires
@@ -163,6 +164,13 @@ impl<B: Buffer> Cursor<B> {
     /// Writes the lowest `len` bytes of `v`, with the mark of the width over the top two bits. `len`
     /// must be 1, 2, 4 or 8. If a varint of `len` bytes holds `v`, it is that varint.
     ///
+    /// ```text
+    /// let mut bytes = [0, 0, 0];
+    /// let mut cursor = OctetsMut::with_slice(&mut bytes);
+    /// cursor.write_marked(0x123456, 2)?;
+    /// assert_eq!(cursor.buf(), [0x74, 0x56, 0].as_slice());
+    /// ```
+    ///
     /// # Requires
     ///
     /// - `IsWidth len`
@@ -186,7 +194,7 @@ impl<B: Buffer> Cursor<B> {
     /// let mut bytes = [0, 0, 0];
     /// let mut cursor = OctetsMut::with_slice(&mut bytes);
     /// cursor.write_varint(15293)?;
-    /// assert!(cursor.buf() == [0x7b, 0xbd, 0].as_slice());
+    /// assert_eq!(cursor.buf(), [0x7b, 0xbd, 0].as_slice());
     /// ```
     ///
     /// # Requires

@@ -29,7 +29,7 @@ impl<B: Buffer> Cursor<B> {
     /// let mut cursor = OctetsMut::with_slice(&mut bytes);
     /// cursor.skip(1)?;
     /// cursor.as_mut()[0] = 9;
-    /// assert!(cursor.buf() == [1, 9, 3].as_slice());
+    /// assert_eq!(cursor.buf(), [1, 9, 3].as_slice());
     /// ```
     #[inline]
     pub fn as_mut(&mut self) -> &mut [u8] {
@@ -46,7 +46,7 @@ impl<B: Buffer> Cursor<B> {
     /// let mut bytes = [0, 0, 0];
     /// let mut cursor = OctetsMut::with_slice(&mut bytes);
     /// cursor.lend(2).copy_from_slice(b"ab");
-    /// assert!(cursor.buf() == [97, 98, 0].as_slice());
+    /// assert_eq!(cursor.buf(), [97, 98, 0].as_slice());
     /// assert_eq!(cursor.off(), 2);
     /// ```
     ///
@@ -98,7 +98,7 @@ impl<B: Buffer> Cursor<B> {
     /// let mut bytes = [0, 0, 0];
     /// let mut cursor = OctetsMut::with_slice(&mut bytes);
     /// cursor.lend_last(2).copy_from_slice(b"ab");
-    /// assert!(cursor.buf() == [0, 97, 98].as_slice());
+    /// assert_eq!(cursor.buf(), [0, 97, 98].as_slice());
     /// ```
     ///
     /// # Requires
