@@ -5,11 +5,12 @@ import tomllib
 from dataclasses import dataclass
 from pathlib import Path
 
+from . import examples
 from .names import Names, names_of
-from .source import EXAMPLE, EXPORT, Refused, Source, prelude
+from .source import EXPORT, Refused, Source, prelude
 from .tokens import tokens_of
 
-KEYS = {"name", "version", "license", "description", "checks", "measures", "usize_of_32_bits", "small_std", "exports"}
+KEYS = {"name", "version", "license", "description", "checks", "measures", "usize_of_32_bits", "small_std", "examples", "exports"}
 TEST_MODULE = re.compile(r"#\[cfg\(test\)\]\s*(?:pub(?:\([^)]*\))?\s+)?mod\s+(\w+)\s*;")
 STD_NAMES = Path(__file__).with_name("std_names.txt")
 
@@ -145,10 +146,10 @@ def test_paths(texts):
 
 
 def finished(source):
-    """The text of an erased file, with few blank lines, and examples as plain text."""
-    parts, last = [], ""
+    """The text of an erased file, with few blank lines, and its examples."""
+    parts, last, uses = [], "", source.crate.settings.get("examples")
     for token in tokens_of(source.joined(source.out)):
-        blanks = re.sub(r"\n\s+\n", "\n\n", re.sub(r"[ \t]+\n", "\n", EXAMPLE.sub(r"\1text\2", token.before)))
+        blanks = re.sub(r"\n\s+\n", "\n\n", re.sub(r"[ \t]+\n", "\n", examples.written(token.before, uses)))
         parts += [re.sub(r"^\s+\n", "\n", blanks) if last == "{" else blanks, token.text]
         last = token.text
     return "".join(parts).strip() + "\n"

@@ -43,7 +43,7 @@ def manifest(crate, places, license_line, kit):
              "[package.metadata.rattle]", f'crate = "{crate.name}"', f'kit = "{kit}"',
              f"# The tree of crates/{crate.name}/src alone: its specs, proofs and package.toml aren't in it.",
              f'sources = "{tree_of(crate)}"', *measures(crate), ""]
-    if not crate.is_program:
+    if not crate.is_program and "examples" not in crate.settings:
         lines += ["[lib]", "doctest = false", ""]
     lines += features(crate)
     lines += dependencies(crate, places)

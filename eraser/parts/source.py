@@ -9,7 +9,6 @@ from .names import angles_end
 from .tokens import CLOSE, END, OPEN, tokens_of
 
 EXPORT = "unsafe(no_mangle)"
-EXAMPLE = re.compile(r"(//[/!] ```)(\n(?: *//[/!](?! ```).*\n)* *//[/!] ```)")
 COMMENTS_OF_LOGIC = {"--", "{-", "-}"}
 EXPRESSION_ENDS = {"word", "number", "string", "char"}
 # The comments before an item, its indentation, and the rest.

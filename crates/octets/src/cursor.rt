@@ -141,7 +141,7 @@ impl<B: Bytes> Cursor<B> {
     /// ```
     /// let mut cursor = Octets::with_slice(&[1, 2, 3]);
     /// cursor.skip(1)?;
-    /// assert_eq!(cursor.to_vec(alloc)?.as_slice(), [2, 3].as_slice());
+    /// assert_eq!(&*cursor.to_vec(alloc)?, [2, 3].as_slice());
     /// ```
     pub fn to_vec(&self, alloc: Global) -> Result<Vec<u8>, AllocError>
         ensures bytes { IfOk result (λ v. v.items ≡ rest self.now) }

@@ -21,7 +21,7 @@ use std::alloc::Global;
 ///
 /// ```
 /// let mut cursor = Octets::with_slice(&[2, 97, 98, 7]);
-/// assert_eq!(get_string(alloc, &mut cursor, 9)?.as_slice(), b"ab".as_slice());
+/// assert_eq!(&*get_string(alloc, &mut cursor, 9)?, b"ab".as_slice());
 /// assert_eq!(cursor.get_u8()?, 7);
 /// ```
 #[tactic(auto, using(crate::proofs::Refusals::answers))]

@@ -22,7 +22,7 @@ pub fn appendix_integers()
 /// ```
 /// octets_literal::laws::literal_once();
 /// let mut cursor = Octets::with_slice(&[2, 97, 98, 7]);
-/// assert_eq!(get_string(alloc, &mut cursor, 9)?.as_slice(), b"ab".as_slice());
+/// assert_eq!(&*get_string(alloc, &mut cursor, 9)?, b"ab".as_slice());
 /// assert_eq!(cursor.off(), 3);
 /// ```
 #[tactic(auto, using(crate::proofs::OneLiteral::one_literal))]
@@ -38,7 +38,7 @@ pub fn literal_once()
 /// let mut bytes = [0, 0, 0];
 /// write_string::<false>(&mut OctetsMut::with_slice(&mut bytes), b"aa")?;
 /// let read = get_string(alloc, &mut Octets::with_slice(&bytes), 2)?;
-/// assert_eq!(read.as_slice(), b"aa".as_slice());
+/// assert_eq!(&*read, b"aa".as_slice());
 /// ```
 #[tactic(auto, using(crate::proofs::Written::canon_literal))]
 pub fn written_read_back()

@@ -35,7 +35,7 @@ impl<'a> Octets<'a> {
     ///
     /// ```
     /// let mut cursor = Octets::with_slice(&[0x18, 0xff]);
-    /// assert_eq!(cursor.get_huffman_decoded(alloc)?.as_slice(), b"aa".as_slice());
+    /// assert_eq!(&*cursor.get_huffman_decoded(alloc)?, b"aa".as_slice());
     /// ```
     #[inline(always)]
     pub fn get_huffman_decoded(&mut self, alloc: Global) -> Result<Vec<u8>, DecodeError>

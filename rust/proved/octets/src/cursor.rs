@@ -34,10 +34,12 @@ impl<B: Bytes> Cursor<B> {
     /// Returns a cursor over a buffer of any type, at its start. For a borrowed slice call
     /// `with_slice`.
     ///
-    /// ```text
+    /// ```
+    /// # use octets_verified::*;
     /// let mut bytes = [1, 2, 3];
     /// let mut cursor = Cursor::with_buffer(&mut bytes[..]);
     /// assert_eq!(cursor.get_u16()?, 0x0102);
+    /// # Ok::<(), Box<dyn core::error::Error>>(())
     /// ```
     #[inline]
     pub fn with_buffer(buf: B) -> Self {
@@ -46,11 +48,13 @@ impl<B: Bytes> Cursor<B> {
 
     /// Returns the buffer, with everything that was written.
     ///
-    /// ```text
+    /// ```
+    /// # use octets_verified::*;
     /// let mut bytes = [1, 2, 3];
     /// let mut cursor = OctetsMut::with_slice(&mut bytes);
     /// cursor.write_u8(9)?;
-    /// assert_eq!(&*cursor.into_buffer(), [9, 2, 3].as_slice());
+    /// assert_eq!(&*cursor.into_buffer(), [9, 2, 3]);
+    /// # Ok::<(), Box<dyn core::error::Error>>(())
     /// ```
     #[inline]
     pub fn into_buffer(self) -> B {
@@ -60,10 +64,12 @@ impl<B: Bytes> Cursor<B> {
 
     /// Returns the number of bytes that remain, from the offset to the end of the buffer.
     ///
-    /// ```text
+    /// ```
+    /// # use octets_verified::*;
     /// let mut cursor = Octets::with_slice(&[1, 2, 3]);
     /// cursor.skip(2)?;
     /// assert_eq!(cursor.cap(), 1);
+    /// # Ok::<(), Box<dyn core::error::Error>>(())
     /// ```
     #[inline]
     pub fn cap(&self) -> usize {
@@ -72,10 +78,12 @@ impl<B: Bytes> Cursor<B> {
 
     /// Returns the number of bytes of the whole buffer, including those before the offset.
     ///
-    /// ```text
+    /// ```
+    /// # use octets_verified::*;
     /// let mut cursor = Octets::with_slice(&[1, 2, 3]);
     /// cursor.skip(2)?;
     /// assert_eq!(cursor.len(), 3);
+    /// # Ok::<(), Box<dyn core::error::Error>>(())
     /// ```
     #[inline]
     pub fn len(&self) -> usize {
@@ -85,10 +93,12 @@ impl<B: Bytes> Cursor<B> {
     /// Returns whether the whole buffer has no bytes. A cursor at the end of a buffer with bytes
     /// isn't empty: test whether [`cap`](Self::cap) is 0 to find the end.
     ///
-    /// ```text
+    /// ```
+    /// # use octets_verified::*;
     /// let mut cursor = Octets::with_slice(&[1]);
     /// cursor.skip(1)?;
     /// assert!(!cursor.is_empty());
+    /// # Ok::<(), Box<dyn core::error::Error>>(())
     /// ```
     #[inline]
     pub fn is_empty(&self) -> bool {
@@ -98,10 +108,12 @@ impl<B: Bytes> Cursor<B> {
     /// Returns the offset, which is the number of bytes of the buffer before the next byte that is
     /// read or written.
     ///
-    /// ```text
+    /// ```
+    /// # use octets_verified::*;
     /// let mut cursor = Octets::with_slice(&[1, 2, 3]);
     /// cursor.skip(2)?;
     /// assert_eq!(cursor.off(), 2);
+    /// # Ok::<(), Box<dyn core::error::Error>>(())
     /// ```
     #[inline]
     pub fn off(&self) -> usize {
@@ -110,10 +122,12 @@ impl<B: Bytes> Cursor<B> {
 
     /// Returns the bytes from the offset on.
     ///
-    /// ```text
+    /// ```
+    /// # use octets_verified::*;
     /// let mut cursor = Octets::with_slice(&[1, 2, 3]);
     /// cursor.skip(2)?;
-    /// assert_eq!(cursor.as_ref(), [3].as_slice());
+    /// assert_eq!(cursor.as_ref(), [3]);
+    /// # Ok::<(), Box<dyn core::error::Error>>(())
     /// ```
     #[inline]
     pub fn as_ref(&self) -> &[u8] {
@@ -123,10 +137,13 @@ impl<B: Bytes> Cursor<B> {
     /// Copies the bytes from the offset on into a new `Vec`. If no byte remains, nothing is
     /// allocated.
     ///
-    /// ```text
+    /// ```
+    /// # use octets_verified::*;
+    /// # let alloc = rattle_std::alloc::Global;
     /// let mut cursor = Octets::with_slice(&[1, 2, 3]);
     /// cursor.skip(1)?;
-    /// assert_eq!(cursor.to_vec(alloc)?.as_slice(), [2, 3].as_slice());
+    /// assert_eq!(&*cursor.to_vec(alloc)?, [2, 3]);
+    /// # Ok::<(), Box<dyn core::error::Error>>(())
     /// ```
     #[inline]
     pub fn to_vec(&self, alloc: Global) -> Result<Vec<u8>, AllocError> {
@@ -143,7 +160,8 @@ impl<B: Bytes> Cursor<B> {
 impl<B: Bytes> PartialEq for Cursor<B> {
     /// Returns whether the whole buffers are equal and the offsets are equal.
     ///
-    /// ```text
+    /// ```
+    /// # use octets_verified::*;
     /// let cursor = Octets::with_slice(&[1, 2, 3]);
     /// assert_eq!(cursor, Octets::with_slice(&[1, 2, 3]));
     /// ```

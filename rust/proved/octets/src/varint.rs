@@ -11,7 +11,8 @@ pub const MAX_VAR_INT: u64 = 4_611_686_018_427_387_903;
 /// Returns the least width in bytes (1, 2, 4 or 8) in which a varint can have the value `v`. `v`
 /// must be below 2 to the power 62, so at most [`MAX_VAR_INT`].
 ///
-/// ```text
+/// ```
+/// # use octets_verified::*;
 /// assert_eq!(varint_len(63), 1);
 /// assert_eq!(varint_len(64), 2);
 /// ```
@@ -38,7 +39,8 @@ pub const fn varint_len(v: u64) -> usize {
 /// Returns whether a varint of `width` bytes can have the value `v`: whether the width is 1, 2, 4
 /// or 8, and `v` is below 2 to the power `8 * width - 2`. `put_varint_with_len` requires this.
 ///
-/// ```text
+/// ```
+/// # use octets_verified::*;
 /// assert!(varint_fits(63, 1));
 /// assert!(!varint_fits(64, 1));
 /// ```
@@ -56,7 +58,8 @@ pub fn varint_fits(v: u64, width: usize) -> bool {
 /// Returns the width in bytes of every varint whose first byte is `first`. The two most significant
 /// bits of that byte determine the width.
 ///
-/// ```text
+/// ```
+/// # use octets_verified::*;
 /// assert_eq!(varint_parse_len(0x25), 1);
 /// assert_eq!(varint_parse_len(0x7b), 2);
 /// ```

@@ -16,12 +16,14 @@ pub trait OctetsWriter {
 
     /// Appends all bytes of `v`, or fails after it has appended a prefix of them at most.
     ///
-    /// ```text
+    /// ```
+    /// # use octets_verified::*;
     /// let mut bytes = [0, 0, 0];
     /// let mut sink = OctetsMut::with_slice(&mut bytes);
     /// OctetsWriter::put_bytes(&mut sink, b"ab")?;
     /// assert!(OctetsWriter::put_bytes(&mut sink, b"cd").is_err());
     /// assert_eq!(sink.off(), 2);
+    /// # Ok::<(), Box<dyn core::error::Error>>(())
     /// ```
     fn put_bytes(&mut self, v: &[u8]) -> std::result::Result<(), Self::Error>;
 }

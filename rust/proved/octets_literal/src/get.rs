@@ -13,10 +13,14 @@ use std::alloc::Global;
 /// The length of the literal may have groups of zeros at its end, but it has at most six bytes and
 /// is at most 4294967295. If the call fails, the offset is unchanged.
 ///
-/// ```text
+/// ```
+/// # use octets_literal::*;
+/// # use octets::*;
+/// # let alloc = rattle_std::alloc::Global;
 /// let mut cursor = Octets::with_slice(&[2, 97, 98, 7]);
-/// assert_eq!(get_string(alloc, &mut cursor, 9)?.as_slice(), b"ab".as_slice());
+/// assert_eq!(&*get_string(alloc, &mut cursor, 9)?, b"ab");
 /// assert_eq!(cursor.get_u8()?, 7);
+/// # Ok::<(), Box<dyn core::error::Error>>(())
 /// ```
 #[inline]
 pub fn get_string(

@@ -14,11 +14,14 @@ use octets::Octets;
 /// unchanged. `out` is unchanged too, with one exception: after a `Value` error of Huffman-encoded
 /// data, `out` begins with what was decoded before the fault.
 ///
-/// ```text
+/// ```
+/// # use octets_literal::*;
+/// # use octets::*;
 /// let mut cursor = Octets::with_slice(&[2, 97, 98, 7]);
 /// let mut out = [0; 4];
 /// assert_eq!(get_string_into(&mut cursor, &mut out)?, 2);
 /// assert_eq!(out, [97, 98, 0, 0]);
+/// # Ok::<(), Box<dyn core::error::Error>>(())
 /// ```
 #[inline]
 pub fn get_string_into(cursor: &mut Octets<'_>, out: &mut [u8]) -> Result<usize, LiteralError> {
@@ -31,7 +34,9 @@ pub fn get_string_into(cursor: &mut Octets<'_>, out: &mut [u8]) -> Result<usize,
 /// is none; the clauses of `get_string_into` follow from it. If the call fails with `Value`,
 /// `fault` says why the data have no value; otherwise `fault` is unchanged.
 ///
-/// ```text
+/// ```
+/// # use octets_literal::*;
+/// # use octets::*;
 /// let mut cursor = Octets::with_slice(&[0x82, 0x18, 0xff]);
 /// let mut fault = ValueError::Long;
 /// assert!(read_string_into(&mut cursor, &mut [0], &mut fault).is_err());

@@ -6,7 +6,9 @@ use octets_code::laws::answers_decided;
 
 /// The integers of RFC 7541, Appendix C.1, are read and written as that appendix shows.
 ///
-/// ```text
+/// ```
+/// # use octets_literal::*;
+/// # use octets::*;
 /// // 1337 after three bits of something else is 1f 9a 0a.
 /// octets_literal::laws::appendix_integers();
 /// ```
@@ -15,11 +17,15 @@ pub fn appendix_integers() {}
 
 /// At most one prefix of a list of bytes is a literal, and it is a literal of one value.
 ///
-/// ```text
+/// ```
+/// # use octets_literal::*;
+/// # use octets::*;
+/// # let alloc = rattle_std::alloc::Global;
 /// octets_literal::laws::literal_once();
 /// let mut cursor = Octets::with_slice(&[2, 97, 98, 7]);
-/// assert_eq!(get_string(alloc, &mut cursor, 9)?.as_slice(), b"ab".as_slice());
+/// assert_eq!(&*get_string(alloc, &mut cursor, 9)?, b"ab");
 /// assert_eq!(cursor.off(), 3);
+/// # Ok::<(), Box<dyn core::error::Error>>(())
 /// ```
 #[inline]
 pub fn literal_once() {}
@@ -27,12 +33,16 @@ pub fn literal_once() {}
 /// What is written for a value is a literal of the value, and its length is the shortest integer
 /// (RFC 7541, section 5.1).
 ///
-/// ```text
+/// ```
+/// # use octets_literal::*;
+/// # use octets::*;
+/// # let alloc = rattle_std::alloc::Global;
 /// octets_literal::laws::written_read_back();
 /// let mut bytes = [0, 0, 0];
 /// write_string::<false>(&mut OctetsMut::with_slice(&mut bytes), b"aa")?;
 /// let read = get_string(alloc, &mut Octets::with_slice(&bytes), 2)?;
-/// assert_eq!(read.as_slice(), b"aa".as_slice());
+/// assert_eq!(&*read, b"aa");
+/// # Ok::<(), Box<dyn core::error::Error>>(())
 /// ```
 #[inline]
 pub fn written_read_back() {}
@@ -40,7 +50,10 @@ pub fn written_read_back() {}
 /// Except for allocation failures, a read of some bytes fails with at most one error. If it fails
 /// with one, the bytes begin with no literal of a value within the limit.
 ///
-/// ```text
+/// ```
+/// # use octets_literal::*;
+/// # use octets::*;
+/// # let alloc = rattle_std::alloc::Global;
 /// octets_literal::laws::refused_once();
 /// let read = get_string(alloc, &mut Octets::with_slice(&[2, 97]), 9);
 /// assert_eq!(read.err(), Some(LiteralError::Short));
@@ -51,10 +64,14 @@ pub fn refused_once() {}
 /// Either bytes begin with a literal of a value within the limit, or a read of them fails with an
 /// error other than `OutOfMemory`.
 ///
-/// ```text
+/// ```
+/// # use octets_literal::*;
+/// # use octets::*;
+/// # let alloc = rattle_std::alloc::Global;
 /// octets_literal::laws::each_decided();
 /// assert!(get_string(alloc, &mut Octets::with_slice(&[0]), 9)?.is_empty());
 /// assert!(get_string(alloc, &mut Octets::with_slice(&[1]), 9).is_err());
+/// # Ok::<(), Box<dyn core::error::Error>>(())
 /// ```
 #[inline]
 pub fn each_decided() {

@@ -13,9 +13,13 @@ use std::alloc::Global;
 /// If the call fails at a literal, it leaves the offset before that literal. If the list of values
 /// can't grow, it leaves the offset after the literal whose value didn't fit.
 ///
-/// ```text
+/// ```
+/// # use octets_literal::*;
+/// # use octets::*;
+/// # let alloc = rattle_std::alloc::Global;
 /// let mut cursor = Octets::with_slice(&[1, 97, 1, 98]);
 /// assert_eq!(get_strings(alloc, &mut cursor, 9)?.len(), 2);
+/// # Ok::<(), Box<dyn core::error::Error>>(())
 /// ```
 #[inline]
 pub fn get_strings(

@@ -13,11 +13,14 @@ use octets::{OctetsWriter, huffman_encoding_len, put_huffman_encoded};
 /// appended. `v` must have at most 4294967295 bytes, which is [`crate::MAX_LITERAL_LEN`]. For an
 /// empty value the sink gets only the length.
 ///
-/// ```text
+/// ```
+/// # use octets_literal::*;
+/// # use octets::*;
 /// let mut bytes = [0, 0, 0, 0];
 /// let mut cursor = OctetsMut::with_slice(&mut bytes);
 /// put_string::<true, OctetsMut<'_>>(&mut cursor, b"AA")?;
 /// assert_eq!(cursor.off(), 3);
+/// # Ok::<(), Box<dyn core::error::Error>>(())
 /// ```
 ///
 /// # Requires

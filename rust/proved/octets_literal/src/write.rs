@@ -12,11 +12,14 @@ use octets::{BufferTooShortError, OctetsMut, Result};
 /// The call fails if fewer bytes remain than the literal has, and then writes nothing. `v` must
 /// have at most 4294967295 bytes, which is [`crate::MAX_LITERAL_LEN`].
 ///
-/// ```text
+/// ```
+/// # use octets_literal::*;
+/// # use octets::*;
 /// let mut bytes = [0, 0, 0, 0];
 /// let mut cursor = OctetsMut::with_slice(&mut bytes);
 /// write_string::<false>(&mut cursor, b"aa")?;
-/// assert_eq!(cursor.buf(), [2, 97, 97, 0].as_slice());
+/// assert_eq!(cursor.buf(), [2, 97, 97, 0]);
+/// # Ok::<(), Box<dyn core::error::Error>>(())
 /// ```
 ///
 /// # Requires

@@ -8,7 +8,8 @@ use rattle_std::{self as std, prelude::*};
 pub trait Bytes {
     /// Returns the number of bytes.
     ///
-    /// ```text
+    /// ```
+    /// # use octets_verified::*;
     /// let mut bytes = [1, 2, 3];
     /// let buffer = bytes.as_mut_slice();
     /// assert_eq!(Bytes::len(&buffer), 3);
@@ -17,10 +18,11 @@ pub trait Bytes {
 
     /// Returns all bytes.
     ///
-    /// ```text
+    /// ```
+    /// # use octets_verified::*;
     /// let mut bytes = [1, 2, 3];
     /// let buffer = bytes.as_mut_slice();
-    /// assert_eq!(Bytes::as_slice(&buffer), [1, 2, 3].as_slice());
+    /// assert_eq!(Bytes::as_slice(&buffer), [1, 2, 3]);
     /// ```
     fn as_slice(&self) -> &[u8];
 }
@@ -31,7 +33,8 @@ pub trait Buffer: Bytes {
     /// length of the buffer. When the loan ends, the buffer contains what was written into that
     /// range, and all other bytes are unchanged.
     ///
-    /// ```text
+    /// ```
+    /// # use octets_verified::*;
     /// let mut bytes = [1, 2, 3];
     /// let mut buffer = bytes.as_mut_slice();
     /// Buffer::part_mut(&mut buffer, 1, 2)[0] = 9;

@@ -24,9 +24,12 @@ impl<'a> Octets<'a> {
     /// This is [`Octets::get_huffman_decoded_with_max_length`] with the limit `usize::MAX`, which
     /// no value exceeds.
     ///
-    /// ```text
+    /// ```
+    /// # use octets_verified::*;
+    /// # let alloc = rattle_std::alloc::Global;
     /// let mut cursor = Octets::with_slice(&[0x18, 0xff]);
-    /// assert_eq!(cursor.get_huffman_decoded(alloc)?.as_slice(), b"aa".as_slice());
+    /// assert_eq!(&*cursor.get_huffman_decoded(alloc)?, b"aa");
+    /// # Ok::<(), Box<dyn core::error::Error>>(())
     /// ```
     #[inline(always)]
     pub fn get_huffman_decoded(&mut self, alloc: Global) -> Result<Vec<u8>, DecodeError> {
@@ -43,7 +46,9 @@ impl<'a> Octets<'a> {
     /// If there is no such symbol, the offset is at the end of the buffer. If the allocation for
     /// the value fails, the call fails with `Memory` before it reads a byte.
     ///
-    /// ```text
+    /// ```
+    /// # use octets_verified::*;
+    /// # let alloc = rattle_std::alloc::Global;
     /// let mut cursor = Octets::with_slice(&[0x18, 0xff]);
     /// assert!(cursor.get_huffman_decoded_with_max_length(alloc, 1).is_err());
     /// assert_eq!(cursor.off(), 2);
@@ -65,11 +70,14 @@ impl<'a> Octets<'a> {
     /// Most codes are read by lookup tables, without the automaton: their steps are added by
     /// [`Steps::spare`]. `steps + 2 * cap()` must be below 2 to the power 128.
     ///
-    /// ```text
+    /// ```
+    /// # use octets_verified::*;
+    /// # let alloc = rattle_std::alloc::Global;
     /// let mut cursor = Octets::with_slice(&[0x18, 0xff]);
     /// let mut steps = octets_code::Steps::new();
     /// cursor.get_huffman_decoded_counted(alloc, 9, &mut steps)?;
     /// assert_eq!(steps.count(), 4);
+    /// # Ok::<(), Box<dyn core::error::Error>>(())
     /// ```
     // This function is inlined so that the two calls above needn't count. They are inlined so that
     // short encodings are decoded fast.
@@ -107,7 +115,8 @@ impl<'a> Octets<'a> {
     /// the bytes that were decoded before the error, and the offset is after the byte at which the
     /// decoder found the error.
     ///
-    /// ```text
+    /// ```
+    /// # use octets_verified::*;
     /// let mut cursor = Octets::with_slice(&[0x18, 0xff]);
     /// let mut out = [0; 4];
     /// assert_eq!(cursor.get_huffman_decoded_into(&mut out), Ok(2));

@@ -39,12 +39,14 @@ impl<B: Bytes> Cursor<B> {
     ///
     /// It fails if the offset is less than `len`. Then the offset is unchanged.
     ///
-    /// ```text
+    /// ```
+    /// # use octets_verified::*;
     /// let mut cursor = Octets::with_slice(&[1, 2, 3]);
     /// cursor.skip(2)?;
     /// cursor.rewind(1)?;
     /// assert_eq!(cursor.off(), 1);
     /// assert_eq!(cursor.rewind(2), Err(BufferTooShortError));
+    /// # Ok::<(), Box<dyn core::error::Error>>(())
     /// ```
     #[inline]
     pub fn rewind(&mut self, len: usize) -> Result<()> {
@@ -59,11 +61,13 @@ impl<B: Bytes> Cursor<B> {
     ///
     /// It fails if fewer than `skip` bytes remain. Then the offset is unchanged.
     ///
-    /// ```text
+    /// ```
+    /// # use octets_verified::*;
     /// let mut cursor = Octets::with_slice(&[1, 2, 3]);
     /// cursor.skip(2)?;
     /// assert_eq!(cursor.off(), 2);
     /// assert_eq!(cursor.skip(2), Err(BufferTooShortError));
+    /// # Ok::<(), Box<dyn core::error::Error>>(())
     /// ```
     #[inline]
     pub fn skip(&mut self, skip: usize) -> Result<()> {

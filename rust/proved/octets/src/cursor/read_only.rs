@@ -15,7 +15,8 @@ pub type Octets<'a> = Cursor<&'a [u8]>;
 impl<'a> Octets<'a> {
     /// Makes a cursor over `buf`, with the offset 0.
     ///
-    /// ```text
+    /// ```
+    /// # use octets_verified::*;
     /// let cursor = Octets::with_slice(&[1, 2, 3]);
     /// assert_eq!(cursor.off(), 0);
     /// assert_eq!(cursor.cap(), 3);
@@ -27,10 +28,12 @@ impl<'a> Octets<'a> {
 
     /// Returns the whole buffer, including the bytes before the offset.
     ///
-    /// ```text
+    /// ```
+    /// # use octets_verified::*;
     /// let mut cursor = Octets::with_slice(&[1, 2, 3]);
     /// cursor.skip(2)?;
-    /// assert_eq!(cursor.buf(), [1, 2, 3].as_slice());
+    /// assert_eq!(cursor.buf(), [1, 2, 3]);
+    /// # Ok::<(), Box<dyn core::error::Error>>(())
     /// ```
     #[inline]
     pub fn buf(&self) -> &'a [u8] {

@@ -15,10 +15,12 @@ impl<B: Bytes> Cursor<B> {
     ///
     /// It fails if no byte remains. Then the offset is unchanged.
     ///
-    /// ```text
+    /// ```
+    /// # use octets_verified::*;
     /// let mut cursor = Octets::with_slice(&[7, 1]);
     /// assert_eq!(cursor.get_u8()?, 7);
     /// assert_eq!(cursor.off(), 1);
+    /// # Ok::<(), Box<dyn core::error::Error>>(())
     /// ```
     #[inline]
     pub fn get_u8(&mut self) -> Result<u8> {
@@ -31,11 +33,13 @@ impl<B: Bytes> Cursor<B> {
     ///
     /// It fails if fewer than two bytes remain. Then the offset is unchanged.
     ///
-    /// ```text
+    /// ```
+    /// # use octets_verified::*;
     /// let mut cursor = Octets::with_slice(&[1, 2, 3]);
     /// assert_eq!(cursor.get_u16()?, 0x0102);
     /// assert_eq!(cursor.get_u16(), Err(BufferTooShortError));
     /// assert_eq!(cursor.off(), 2);
+    /// # Ok::<(), Box<dyn core::error::Error>>(())
     /// ```
     #[inline]
     pub fn get_u16(&mut self) -> Result<u16> {
@@ -48,9 +52,11 @@ impl<B: Bytes> Cursor<B> {
     ///
     /// It fails if fewer than three bytes remain. Then the offset is unchanged.
     ///
-    /// ```text
+    /// ```
+    /// # use octets_verified::*;
     /// let mut cursor = Octets::with_slice(&[1, 2, 3]);
     /// assert_eq!(cursor.get_u24()?, 0x010203);
+    /// # Ok::<(), Box<dyn core::error::Error>>(())
     /// ```
     #[inline]
     pub fn get_u24(&mut self) -> Result<u32> {
@@ -63,9 +69,11 @@ impl<B: Bytes> Cursor<B> {
     ///
     /// It fails if fewer than four bytes remain. Then the offset is unchanged.
     ///
-    /// ```text
+    /// ```
+    /// # use octets_verified::*;
     /// let mut cursor = Octets::with_slice(&[1, 2, 3, 4]);
     /// assert_eq!(cursor.get_u32()?, 0x01020304);
+    /// # Ok::<(), Box<dyn core::error::Error>>(())
     /// ```
     #[inline]
     pub fn get_u32(&mut self) -> Result<u32> {
@@ -78,9 +86,11 @@ impl<B: Bytes> Cursor<B> {
     ///
     /// It fails if fewer than eight bytes remain. Then the offset is unchanged.
     ///
-    /// ```text
+    /// ```
+    /// # use octets_verified::*;
     /// let mut cursor = Octets::with_slice(&[0, 0, 0, 0, 1, 2, 3, 4]);
     /// assert_eq!(cursor.get_u64()?, 0x01020304);
+    /// # Ok::<(), Box<dyn core::error::Error>>(())
     /// ```
     #[inline]
     pub fn get_u64(&mut self) -> Result<u64> {
@@ -93,10 +103,12 @@ impl<B: Bytes> Cursor<B> {
     ///
     /// It fails if no byte remains.
     ///
-    /// ```text
+    /// ```
+    /// # use octets_verified::*;
     /// let mut cursor = Octets::with_slice(&[7, 1]);
     /// assert_eq!(cursor.peek_u8()?, 7);
     /// assert_eq!(cursor.off(), 0);
+    /// # Ok::<(), Box<dyn core::error::Error>>(())
     /// ```
     #[inline]
     pub fn peek_u8(&mut self) -> Result<u8> {
@@ -108,10 +120,12 @@ impl<B: Bytes> Cursor<B> {
     /// It also reads a varint that is wider than its value needs. It fails if no byte remains, or
     /// if fewer bytes remain than the first byte announces. Then the offset is unchanged.
     ///
-    /// ```text
+    /// ```
+    /// # use octets_verified::*;
     /// let mut cursor = Octets::with_slice(&[0x40, 0x25]);
     /// assert_eq!(cursor.get_varint()?, 37);
     /// assert_eq!(cursor.off(), 2);
+    /// # Ok::<(), Box<dyn core::error::Error>>(())
     /// ```
     #[inline]
     pub fn get_varint(&mut self) -> Result<u64> {
@@ -127,7 +141,8 @@ impl<B: Bytes> Cursor<B> {
     /// [`VarintError::Overlong`] if a shorter varint holds the same value. Then the offset is
     /// unchanged.
     ///
-    /// ```text
+    /// ```
+    /// # use octets_verified::*;
     /// let mut cursor = Octets::with_slice(&[0x25, 0x40, 0x25]);
     /// assert_eq!(cursor.get_varint_shortest(), Ok(37));
     /// assert_eq!(cursor.get_varint_shortest(), Err(VarintError::Overlong));

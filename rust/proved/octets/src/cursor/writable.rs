@@ -22,7 +22,8 @@ pub type OctetsMut<'a> = Cursor<&'a mut [u8]>;
 impl<'a> OctetsMut<'a> {
     /// Makes a cursor over `buf`, with the offset 0.
     ///
-    /// ```text
+    /// ```
+    /// # use octets_verified::*;
     /// let mut bytes = [1, 2, 3];
     /// let cursor = OctetsMut::with_slice(&mut bytes);
     /// assert_eq!(cursor.off(), 0);
@@ -36,12 +37,14 @@ impl<'a> OctetsMut<'a> {
     /// Consumes the cursor, and returns the whole buffer with everything that was written. The
     /// result lives as long as the borrow of the buffer.
     ///
-    /// ```text
+    /// ```
+    /// # use octets_verified::*;
     /// let mut bytes = [0, 0];
     /// let mut cursor = OctetsMut::with_slice(&mut bytes);
     /// cursor.put_u8(7)?;
     /// cursor.into_inner()[1] = 9;
     /// assert_eq!(bytes, [7, 9]);
+    /// # Ok::<(), Box<dyn core::error::Error>>(())
     /// ```
     #[inline]
     pub fn into_inner(self) -> &'a mut [u8] {
@@ -53,11 +56,13 @@ impl<'a> OctetsMut<'a> {
 impl<B: Buffer> Cursor<B> {
     /// Returns the whole buffer, including the bytes before the offset.
     ///
-    /// ```text
+    /// ```
+    /// # use octets_verified::*;
     /// let mut bytes = [1, 2, 3];
     /// let mut cursor = OctetsMut::with_slice(&mut bytes);
     /// cursor.skip(2)?;
-    /// assert_eq!(cursor.buf(), [1, 2, 3].as_slice());
+    /// assert_eq!(cursor.buf(), [1, 2, 3]);
+    /// # Ok::<(), Box<dyn core::error::Error>>(())
     /// ```
     #[inline]
     pub fn buf(&self) -> &[u8] {

@@ -26,7 +26,8 @@ static LOWERED: [u8; 256] = [
 /// Returns `byte`, or its lower case if `to_lower` is true. The lower case of the bytes 65 to 90 is
 /// 32 more; that of any other byte is the byte itself.
 ///
-/// ```text
+/// ```
+/// # use octets_verified::*;
 /// assert_eq!(cased_byte(b'Z', true), b'z');
 /// assert_eq!(cased_byte(b'Z', false), b'Z');
 /// ```

@@ -86,11 +86,13 @@ pub(crate) fn put_words<T: Target>(target: &mut T, v: &[u8], to_lower: bool) -> 
 /// of them in one call; it gets each further byte in a call of its own. The encode stops at the
 /// first call that fails, and what was appended before remains in the sink.
 ///
-/// ```text
+/// ```
+/// # use octets_verified::*;
 /// let mut bytes = [0, 0, 0];
 /// let mut cursor = OctetsMut::with_slice(&mut bytes);
 /// put_huffman_encoded::<true, OctetsMut<'_>>(&mut cursor, b"AA")?;
-/// assert_eq!(cursor.buf(), [0x18, 0xff, 0].as_slice());
+/// assert_eq!(cursor.buf(), [0x18, 0xff, 0]);
+/// # Ok::<(), Box<dyn core::error::Error>>(())
 /// ```
 #[inline(always)]
 pub fn put_huffman_encoded<const LOWER_CASE: bool, W: OctetsWriter>(

@@ -70,7 +70,8 @@ pub(super) fn bit_len(src: &[u8], to_lower: bool) -> u128 {
 /// Returns the length in bytes of the Huffman encoding of `src`, in lower case if `LOWER_CASE` is
 /// true (RFC 7541, section 5.2), even if the encoding is longer than `src`.
 ///
-/// ```text
+/// ```
+/// # use octets_verified::*;
 /// assert_eq!(huffman_text_len::<false>(b"custom-key"), 8);
 /// assert_eq!(huffman_text_len::<false>(&[0]), 2);
 /// ```
@@ -84,9 +85,11 @@ pub fn huffman_text_len<const LOWER_CASE: bool>(src: &[u8]) -> u128 {
 ///
 /// It fails if the encoding is longer than `src`, because a sender would then send the plain bytes.
 ///
-/// ```text
+/// ```
+/// # use octets_verified::*;
 /// assert_eq!(huffman_encoding_len::<false>(b"custom-key")?, 8);
 /// assert!(huffman_encoding_len::<false>(&[0]).is_err());
+/// # Ok::<(), Box<dyn core::error::Error>>(())
 /// ```
 #[inline]
 pub fn huffman_encoding_len<const LOWER_CASE: bool>(src: &[u8]) -> Result<usize> {

@@ -15,7 +15,8 @@ pub struct Pending {
 impl Pending {
     /// Returns a value with no bits.
     ///
-    /// ```text
+    /// ```
+    /// # use octets_verified::*;
     /// let mut pending = Pending::new();
     /// assert!(pending.push_code(b'a').is_none());
     /// assert_eq!(pending.count(), 5);
@@ -39,7 +40,8 @@ impl Pending {
     /// Returns the `count` most significant bits of `bits`, most significant bit first. The other
     /// bits of `bits` must be zero.
     ///
-    /// ```text
+    /// ```
+    /// # use octets_verified::*;
     /// let pending = Pending::of_bits(5, 0x1800000000000000);
     /// assert_eq!(pending.count(), 5);
     /// ```
@@ -58,7 +60,8 @@ impl Pending {
 
     /// Returns the number of bits.
     ///
-    /// ```text
+    /// ```
+    /// # use octets_verified::*;
     /// assert_eq!(Pending::new().count(), 0);
     /// ```
     #[inline]
@@ -68,7 +71,8 @@ impl Pending {
 
     /// Returns the bits as the most significant bits of a word, whose other bits are zero.
     ///
-    /// ```text
+    /// ```
+    /// # use octets_verified::*;
     /// let mut pending = Pending::new();
     /// assert!(pending.push_code(b'a').is_none());
     /// assert_eq!(pending.bits(), 0x1800000000000000);
@@ -92,7 +96,8 @@ impl Pending {
     /// Adds the code of `byte`. If there are now at least 64 bits, it takes the first 64 and
     /// returns them.
     ///
-    /// ```text
+    /// ```
+    /// # use octets_verified::*;
     /// let mut pending = Pending::of_bits(63, 0);
     /// assert_eq!(pending.push_code(b'a'), Some(0));
     /// assert_eq!(pending.count(), 4);

@@ -10,12 +10,14 @@ impl<'a> Octets<'a> {
     ///
     /// It fails if fewer than `len` bytes remain. Then the offset is unchanged.
     ///
-    /// ```text
+    /// ```
+    /// # use octets_verified::*;
     /// let mut cursor = Octets::with_slice(&[1, 2, 3]);
     /// let mut view = cursor.get_bytes(2)?;
     /// assert_eq!(view.get_u16()?, 0x0102);
     /// assert_eq!(cursor.off(), 2);
     /// assert_eq!(cursor.get_bytes(2), Err(BufferTooShortError));
+    /// # Ok::<(), Box<dyn core::error::Error>>(())
     /// ```
     #[inline]
     pub fn get_bytes(&mut self, len: usize) -> Result<Octets<'a>> {
@@ -28,11 +30,13 @@ impl<'a> Octets<'a> {
     ///
     /// It fails if fewer than `len` bytes remain.
     ///
-    /// ```text
+    /// ```
+    /// # use octets_verified::*;
     /// let cursor = Octets::with_slice(&[1, 2, 3]);
     /// let mut view = cursor.peek_bytes(2)?;
     /// assert_eq!(view.get_u16()?, 0x0102);
     /// assert_eq!(cursor.off(), 0);
+    /// # Ok::<(), Box<dyn core::error::Error>>(())
     /// ```
     #[inline]
     pub fn peek_bytes(&self, len: usize) -> Result<Octets<'a>> {
@@ -43,10 +47,12 @@ impl<'a> Octets<'a> {
     ///
     /// It fails if fewer than `len` bytes remain.
     ///
-    /// ```text
+    /// ```
+    /// # use octets_verified::*;
     /// let cursor = Octets::with_slice(&[1, 2, 3]);
-    /// assert_eq!(cursor.slice(2)?, [1, 2].as_slice());
+    /// assert_eq!(cursor.slice(2)?, [1, 2]);
     /// assert_eq!(cursor.off(), 0);
+    /// # Ok::<(), Box<dyn core::error::Error>>(())
     /// ```
     #[inline]
     pub fn slice(&self, len: usize) -> Result<&'a [u8]> {
@@ -61,9 +67,11 @@ impl<'a> Octets<'a> {
     ///
     /// It fails if fewer than `len` bytes remain from the offset on.
     ///
-    /// ```text
+    /// ```
+    /// # use octets_verified::*;
     /// let cursor = Octets::with_slice(&[1, 2, 3]);
-    /// assert_eq!(cursor.slice_last(2)?, [2, 3].as_slice());
+    /// assert_eq!(cursor.slice_last(2)?, [2, 3]);
+    /// # Ok::<(), Box<dyn core::error::Error>>(())
     /// ```
     #[inline]
     pub fn slice_last(&self, len: usize) -> Result<&'a [u8]> {
@@ -80,11 +88,13 @@ impl<'a> Octets<'a> {
     /// It fails if no byte remains; then the offset is unchanged. It also fails if fewer bytes
     /// follow the length than the length says; then the offset is after the length.
     ///
-    /// ```text
+    /// ```
+    /// # use octets_verified::*;
     /// let mut cursor = Octets::with_slice(&[2, 97, 98, 0]);
     /// let run = cursor.get_bytes_with_u8_length()?;
-    /// assert_eq!(run.buf(), b"ab".as_slice());
+    /// assert_eq!(run.buf(), b"ab");
     /// assert_eq!(cursor.off(), 3);
+    /// # Ok::<(), Box<dyn core::error::Error>>(())
     /// ```
     #[inline]
     pub fn get_bytes_with_u8_length(&mut self) -> Result<Octets<'a>> {
@@ -98,11 +108,13 @@ impl<'a> Octets<'a> {
     /// It fails if fewer than two bytes remain; then the offset is unchanged. It also fails if
     /// fewer bytes follow the length than the length says; then the offset is after the length.
     ///
-    /// ```text
+    /// ```
+    /// # use octets_verified::*;
     /// let mut cursor = Octets::with_slice(&[0, 2, 97, 98, 0]);
     /// let run = cursor.get_bytes_with_u16_length()?;
-    /// assert_eq!(run.buf(), b"ab".as_slice());
+    /// assert_eq!(run.buf(), b"ab");
     /// assert_eq!(cursor.off(), 4);
+    /// # Ok::<(), Box<dyn core::error::Error>>(())
     /// ```
     #[inline]
     pub fn get_bytes_with_u16_length(&mut self) -> Result<Octets<'a>> {
@@ -116,11 +128,13 @@ impl<'a> Octets<'a> {
     /// It fails if no complete varint remains; then the offset is unchanged. It also fails if fewer
     /// bytes follow the length than the length says; then the offset is after the length.
     ///
-    /// ```text
+    /// ```
+    /// # use octets_verified::*;
     /// let mut cursor = Octets::with_slice(&[0x40, 2, 97, 98, 0]);
     /// let run = cursor.get_bytes_with_varint_length()?;
-    /// assert_eq!(run.buf(), b"ab".as_slice());
+    /// assert_eq!(run.buf(), b"ab");
     /// assert_eq!(cursor.off(), 4);
+    /// # Ok::<(), Box<dyn core::error::Error>>(())
     /// ```
     #[inline]
     pub fn get_bytes_with_varint_length(&mut self) -> Result<Octets<'a>> {

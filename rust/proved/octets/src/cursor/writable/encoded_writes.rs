@@ -17,11 +17,13 @@ impl<B: Buffer> Cursor<B> {
     /// them. To avoid that, call [`huffman_encoding_len`](crate::huffman_encoding_len) first, or
     /// write to a buffer that you can discard.
     ///
-    /// ```text
+    /// ```
+    /// # use octets_verified::*;
     /// let mut bytes = [0, 0, 0];
     /// let mut cursor = OctetsMut::with_slice(&mut bytes);
     /// cursor.put_huffman_encoded::<true>(b"AA")?;
-    /// assert_eq!(cursor.buf(), [0x18, 0xff, 0].as_slice());
+    /// assert_eq!(cursor.buf(), [0x18, 0xff, 0]);
+    /// # Ok::<(), Box<dyn core::error::Error>>(())
     /// ```
     #[inline(always)]
     pub fn put_huffman_encoded<const LOWER_CASE: bool>(

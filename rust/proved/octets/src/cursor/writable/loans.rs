@@ -69,11 +69,13 @@ impl<'a> OctetsMut<'a> {
     ///
     /// It fails if fewer than `len` bytes remain.
     ///
-    /// ```text
+    /// ```
+    /// # use octets_verified::*;
     /// let mut bytes = [1, 2, 3];
     /// let mut cursor = OctetsMut::with_slice(&mut bytes);
     /// cursor.slice(2)?[0] = 9;
     /// assert_eq!(cursor.get_u8()?, 9);
+    /// # Ok::<(), Box<dyn core::error::Error>>(())
     /// ```
     #[inline]
     pub fn slice(&mut self, len: usize) -> Result<&mut [u8]>// The proof is hand-written, so any edit of the body breaks it: see CONTRIBUTING.md.
@@ -86,11 +88,13 @@ impl<'a> OctetsMut<'a> {
     ///
     /// It fails if fewer than `len` bytes remain from the offset on.
     ///
-    /// ```text
+    /// ```
+    /// # use octets_verified::*;
     /// let mut bytes = [1, 2, 3];
     /// let mut cursor = OctetsMut::with_slice(&mut bytes);
     /// cursor.slice_last(1)?[0] = 9;
-    /// assert_eq!(cursor.buf(), [1, 2, 9].as_slice());
+    /// assert_eq!(cursor.buf(), [1, 2, 9]);
+    /// # Ok::<(), Box<dyn core::error::Error>>(())
     /// ```
     #[inline]
     pub fn slice_last(&mut self, len: usize) -> Result<&mut [u8]>// The proof is hand-written, so any edit of the body breaks it: see CONTRIBUTING.md.
@@ -103,12 +107,14 @@ impl<'a> OctetsMut<'a> {
     ///
     /// It fails if fewer than `len` bytes remain. Then the offset is unchanged.
     ///
-    /// ```text
+    /// ```
+    /// # use octets_verified::*;
     /// let mut bytes = [0, 0, 0];
     /// let mut cursor = OctetsMut::with_slice(&mut bytes);
     /// cursor.get_bytes_mut(2)?.put_u16(0x0102)?;
-    /// assert_eq!(cursor.buf(), [1, 2, 0].as_slice());
+    /// assert_eq!(cursor.buf(), [1, 2, 0]);
     /// assert_eq!(cursor.off(), 2);
+    /// # Ok::<(), Box<dyn core::error::Error>>(())
     /// ```
     #[inline]
     pub fn get_bytes_mut(&mut self, len: usize) -> Result<OctetsMut<'_>>// The proof is hand-written, so any edit of the body breaks it: see CONTRIBUTING.md.
@@ -121,11 +127,13 @@ impl<'a> OctetsMut<'a> {
     ///
     /// It fails if fewer than `len` bytes remain.
     ///
-    /// ```text
+    /// ```
+    /// # use octets_verified::*;
     /// let mut bytes = [0, 0, 0];
     /// let mut cursor = OctetsMut::with_slice(&mut bytes);
     /// cursor.peek_bytes_mut(2)?.put_u16(0x0102)?;
     /// assert_eq!(cursor.get_u16()?, 0x0102);
+    /// # Ok::<(), Box<dyn core::error::Error>>(())
     /// ```
     #[inline]
     pub fn peek_bytes_mut(&mut self, len: usize) -> Result<OctetsMut<'_>>// The proof is hand-written, so any edit of the body breaks it: see CONTRIBUTING.md.
@@ -139,12 +147,14 @@ impl<'a> OctetsMut<'a> {
     ///
     /// It fails if the buffer has fewer than `off` bytes.
     ///
-    /// ```text
+    /// ```
+    /// # use octets_verified::*;
     /// let mut bytes = [1, 2, 3];
     /// let mut cursor = OctetsMut::with_slice(&mut bytes);
     /// let (left, right) = cursor.split_at(1)?;
-    /// assert_eq!(left.buf(), [1].as_slice());
-    /// assert_eq!(right.buf(), [2, 3].as_slice());
+    /// assert_eq!(left.buf(), [1]);
+    /// assert_eq!(right.buf(), [2, 3]);
+    /// # Ok::<(), Box<dyn core::error::Error>>(())
     /// ```
     #[inline]
     pub fn split_at(&mut self, off: usize) -> Result<(OctetsMut<'_>, OctetsMut<'_>)>// The proof is hand-written, so any edit of the body breaks it: see CONTRIBUTING.md.
@@ -158,11 +168,13 @@ impl<'a> OctetsMut<'a> {
     ///
     /// It fails if no byte remains. Then nothing is written, and the offset is unchanged.
     ///
-    /// ```text
+    /// ```
+    /// # use octets_verified::*;
     /// let mut bytes = [0, 0];
     /// let mut cursor = OctetsMut::with_slice(&mut bytes);
     /// cursor.put_u8(7)?;
-    /// assert_eq!(cursor.buf(), [7, 0].as_slice());
+    /// assert_eq!(cursor.buf(), [7, 0]);
+    /// # Ok::<(), Box<dyn core::error::Error>>(())
     /// ```
     #[inline]
     pub fn put_u8(&mut self, v: u8) -> Result<&mut [u8]>// The proof is hand-written, so any edit of the body breaks it: see CONTRIBUTING.md.
@@ -177,11 +189,13 @@ impl<'a> OctetsMut<'a> {
     /// It fails if fewer than two bytes remain. Then nothing is written, and the offset is
     /// unchanged.
     ///
-    /// ```text
+    /// ```
+    /// # use octets_verified::*;
     /// let mut bytes = [0, 0, 0];
     /// let mut cursor = OctetsMut::with_slice(&mut bytes);
     /// cursor.put_u16(0x0102)?[1] = 9;
-    /// assert_eq!(cursor.buf(), [1, 9, 0].as_slice());
+    /// assert_eq!(cursor.buf(), [1, 9, 0]);
+    /// # Ok::<(), Box<dyn core::error::Error>>(())
     /// ```
     #[inline]
     pub fn put_u16(&mut self, v: u16) -> Result<&mut [u8]>// The proof is hand-written, so any edit of the body breaks it: see CONTRIBUTING.md.
@@ -196,11 +210,13 @@ impl<'a> OctetsMut<'a> {
     /// It fails if fewer than three bytes remain. Then nothing is written, and the offset is
     /// unchanged.
     ///
-    /// ```text
+    /// ```
+    /// # use octets_verified::*;
     /// let mut bytes = [0, 0, 0];
     /// let mut cursor = OctetsMut::with_slice(&mut bytes);
     /// cursor.put_u24(0x09010203)?;
-    /// assert_eq!(cursor.buf(), [1, 2, 3].as_slice());
+    /// assert_eq!(cursor.buf(), [1, 2, 3]);
+    /// # Ok::<(), Box<dyn core::error::Error>>(())
     /// ```
     #[inline]
     pub fn put_u24(&mut self, v: u32) -> Result<&mut [u8]>// The proof is hand-written, so any edit of the body breaks it: see CONTRIBUTING.md.
@@ -215,11 +231,13 @@ impl<'a> OctetsMut<'a> {
     /// It fails if fewer than four bytes remain. Then nothing is written, and the offset is
     /// unchanged.
     ///
-    /// ```text
+    /// ```
+    /// # use octets_verified::*;
     /// let mut bytes = [0, 0, 0, 0];
     /// let mut cursor = OctetsMut::with_slice(&mut bytes);
     /// cursor.put_u32(0x01020304)?;
-    /// assert_eq!(cursor.buf(), [1, 2, 3, 4].as_slice());
+    /// assert_eq!(cursor.buf(), [1, 2, 3, 4]);
+    /// # Ok::<(), Box<dyn core::error::Error>>(())
     /// ```
     #[inline]
     pub fn put_u32(&mut self, v: u32) -> Result<&mut [u8]>// The proof is hand-written, so any edit of the body breaks it: see CONTRIBUTING.md.
@@ -234,11 +252,13 @@ impl<'a> OctetsMut<'a> {
     /// It fails if fewer than eight bytes remain. Then nothing is written, and the offset is
     /// unchanged.
     ///
-    /// ```text
+    /// ```
+    /// # use octets_verified::*;
     /// let mut bytes = [9, 9, 9, 9, 9, 9, 9, 9];
     /// let mut cursor = OctetsMut::with_slice(&mut bytes);
     /// cursor.put_u64(0x0102)?;
-    /// assert_eq!(cursor.buf(), [0, 0, 0, 0, 0, 0, 1, 2].as_slice());
+    /// assert_eq!(cursor.buf(), [0, 0, 0, 0, 0, 0, 1, 2]);
+    /// # Ok::<(), Box<dyn core::error::Error>>(())
     /// ```
     #[inline]
     pub fn put_u64(&mut self, v: u64) -> Result<&mut [u8]>// The proof is hand-written, so any edit of the body breaks it: see CONTRIBUTING.md.
@@ -252,11 +272,13 @@ impl<'a> OctetsMut<'a> {
     ///
     /// It fails if fewer bytes remain than that width, and then writes nothing.
     ///
-    /// ```text
+    /// ```
+    /// # use octets_verified::*;
     /// let mut bytes = [0, 0, 0];
     /// let mut cursor = OctetsMut::with_slice(&mut bytes);
     /// assert_eq!(cursor.put_varint(15293)?.len(), 2);
-    /// assert_eq!(cursor.buf(), [0x7b, 0xbd, 0].as_slice());
+    /// assert_eq!(cursor.buf(), [0x7b, 0xbd, 0]);
+    /// # Ok::<(), Box<dyn core::error::Error>>(())
     /// ```
     ///
     /// # Requires
@@ -278,11 +300,13 @@ impl<'a> OctetsMut<'a> {
     ///
     /// It fails if fewer than `len` bytes remain, and then writes nothing.
     ///
-    /// ```text
+    /// ```
+    /// # use octets_verified::*;
     /// let mut bytes = [0, 0, 0];
     /// let mut cursor = OctetsMut::with_slice(&mut bytes);
     /// cursor.put_varint_with_len(37, 2)?;
-    /// assert_eq!(cursor.buf(), [0x40, 0x25, 0].as_slice());
+    /// assert_eq!(cursor.buf(), [0x40, 0x25, 0]);
+    /// # Ok::<(), Box<dyn core::error::Error>>(())
     /// ```
     ///
     /// # Requires
@@ -304,11 +328,13 @@ impl<'a> OctetsMut<'a> {
     /// Writes the lowest `len` bytes of `v`, with the mark of the width over the top two bits, moves
     /// the offset past them, and lends these bytes for writing. `len` must be 1, 2, 4 or 8.
     ///
-    /// ```text
+    /// ```
+    /// # use octets_verified::*;
     /// let mut bytes = [0, 0, 0];
     /// let mut cursor = OctetsMut::with_slice(&mut bytes);
     /// cursor.put_marked(0x123456, 2)?;
-    /// assert_eq!(cursor.buf(), [0x74, 0x56, 0].as_slice());
+    /// assert_eq!(cursor.buf(), [0x74, 0x56, 0]);
+    /// # Ok::<(), Box<dyn core::error::Error>>(())
     /// ```
     ///
     /// # Requires

@@ -13,12 +13,14 @@ impl<B: Buffer> Cursor<B> {
     ///
     /// It fails if fewer than `len` bytes remain.
     ///
-    /// ```text
+    /// ```
+    /// # use octets_verified::*;
     /// let mut bytes = [1, 2, 3];
     /// let mut cursor = OctetsMut::with_slice(&mut bytes);
     /// let mut view = cursor.peek_bytes(2)?;
     /// assert_eq!(view.get_u16()?, 0x0102);
     /// assert_eq!(cursor.off(), 0);
+    /// # Ok::<(), Box<dyn core::error::Error>>(())
     /// ```
     #[inline]
     pub fn peek_bytes(&mut self, len: usize) -> Result<Octets<'_>> {
@@ -32,13 +34,15 @@ impl<B: Buffer> Cursor<B> {
     ///
     /// It fails if fewer than `len` bytes remain. Then the offset is unchanged.
     ///
-    /// ```text
+    /// ```
+    /// # use octets_verified::*;
     /// let mut bytes = [1, 2, 3];
     /// let mut cursor = OctetsMut::with_slice(&mut bytes);
     /// let mut view = cursor.get_bytes(2)?;
     /// assert_eq!(view.get_u16()?, 0x0102);
     /// assert_eq!(cursor.off(), 2);
     /// assert_eq!(cursor.get_bytes(2), Err(BufferTooShortError));
+    /// # Ok::<(), Box<dyn core::error::Error>>(())
     /// ```
     #[inline]
     pub fn get_bytes(&mut self, len: usize) -> Result<Octets<'_>> {
@@ -56,12 +60,14 @@ impl<B: Buffer> Cursor<B> {
     /// It fails if no byte remains; then the offset is unchanged. It also fails if fewer bytes
     /// follow the length than the length says; then the offset is after the length.
     ///
-    /// ```text
+    /// ```
+    /// # use octets_verified::*;
     /// let mut bytes = [2, 97, 98, 0];
     /// let mut cursor = OctetsMut::with_slice(&mut bytes);
     /// let run = cursor.get_bytes_with_u8_length()?;
-    /// assert_eq!(run.buf(), b"ab".as_slice());
+    /// assert_eq!(run.buf(), b"ab");
     /// assert_eq!(cursor.off(), 3);
+    /// # Ok::<(), Box<dyn core::error::Error>>(())
     /// ```
     #[inline]
     pub fn get_bytes_with_u8_length(&mut self) -> Result<Octets<'_>> {
@@ -75,12 +81,14 @@ impl<B: Buffer> Cursor<B> {
     /// It fails if fewer than two bytes remain; then the offset is unchanged. It also fails if
     /// fewer bytes follow the length than the length says; then the offset is after the length.
     ///
-    /// ```text
+    /// ```
+    /// # use octets_verified::*;
     /// let mut bytes = [0, 2, 97, 98, 0];
     /// let mut cursor = OctetsMut::with_slice(&mut bytes);
     /// let run = cursor.get_bytes_with_u16_length()?;
-    /// assert_eq!(run.buf(), b"ab".as_slice());
+    /// assert_eq!(run.buf(), b"ab");
     /// assert_eq!(cursor.off(), 4);
+    /// # Ok::<(), Box<dyn core::error::Error>>(())
     /// ```
     #[inline]
     pub fn get_bytes_with_u16_length(&mut self) -> Result<Octets<'_>> {
@@ -94,12 +102,14 @@ impl<B: Buffer> Cursor<B> {
     /// It fails if no complete varint remains; then the offset is unchanged. It also fails if fewer
     /// bytes follow the length than the length says; then the offset is after the length.
     ///
-    /// ```text
+    /// ```
+    /// # use octets_verified::*;
     /// let mut bytes = [0x40, 2, 97, 98, 0];
     /// let mut cursor = OctetsMut::with_slice(&mut bytes);
     /// let run = cursor.get_bytes_with_varint_length()?;
-    /// assert_eq!(run.buf(), b"ab".as_slice());
+    /// assert_eq!(run.buf(), b"ab");
     /// assert_eq!(cursor.off(), 4);
+    /// # Ok::<(), Box<dyn core::error::Error>>(())
     /// ```
     #[inline]
     pub fn get_bytes_with_varint_length(&mut self) -> Result<Octets<'_>> {

@@ -20,12 +20,14 @@ impl<B: Buffer> Cursor<B> {
     /// It fails if fewer bytes remain than `v` has. Then nothing is written, and the offset is
     /// unchanged.
     ///
-    /// ```text
+    /// ```
+    /// # use octets_verified::*;
     /// let mut bytes = [0, 0, 0];
     /// let mut cursor = OctetsMut::with_slice(&mut bytes);
     /// cursor.put_bytes(b"ab")?;
     /// assert_eq!(cursor.put_bytes(b"cd"), Err(BufferTooShortError));
-    /// assert_eq!(cursor.buf(), [97, 98, 0].as_slice());
+    /// assert_eq!(cursor.buf(), [97, 98, 0]);
+    /// # Ok::<(), Box<dyn core::error::Error>>(())
     /// ```
     #[inline(always)]
     pub fn put_bytes(&mut self, v: &[u8]) -> Result<()> {
@@ -66,11 +68,13 @@ impl<B: Buffer> Cursor<B> {
 
     /// Writes `v` as one byte.
     ///
-    /// ```text
+    /// ```
+    /// # use octets_verified::*;
     /// let mut bytes = [0, 0];
     /// let mut cursor = OctetsMut::with_slice(&mut bytes);
     /// cursor.write_u8(7)?;
-    /// assert_eq!(cursor.buf(), [7, 0].as_slice());
+    /// assert_eq!(cursor.buf(), [7, 0]);
+    /// # Ok::<(), Box<dyn core::error::Error>>(())
     /// ```
     #[inline]
     pub fn write_u8(&mut self, v: u8) -> Result<()> {
@@ -79,11 +83,13 @@ impl<B: Buffer> Cursor<B> {
 
     /// Writes `v` as two bytes in network order.
     ///
-    /// ```text
+    /// ```
+    /// # use octets_verified::*;
     /// let mut bytes = [0, 0, 0];
     /// let mut cursor = OctetsMut::with_slice(&mut bytes);
     /// cursor.write_u16(0x0102)?;
-    /// assert_eq!(cursor.buf(), [1, 2, 0].as_slice());
+    /// assert_eq!(cursor.buf(), [1, 2, 0]);
+    /// # Ok::<(), Box<dyn core::error::Error>>(())
     /// ```
     #[inline]
     pub fn write_u16(&mut self, v: u16) -> Result<()> {
@@ -93,11 +99,13 @@ impl<B: Buffer> Cursor<B> {
 
     /// Writes the lowest three bytes of `v` in network order.
     ///
-    /// ```text
+    /// ```
+    /// # use octets_verified::*;
     /// let mut bytes = [0, 0, 0];
     /// let mut cursor = OctetsMut::with_slice(&mut bytes);
     /// cursor.write_u24(0x010203)?;
-    /// assert_eq!(cursor.buf(), [1, 2, 3].as_slice());
+    /// assert_eq!(cursor.buf(), [1, 2, 3]);
+    /// # Ok::<(), Box<dyn core::error::Error>>(())
     /// ```
     #[inline]
     pub fn write_u24(&mut self, v: u32) -> Result<()> {
@@ -106,11 +114,13 @@ impl<B: Buffer> Cursor<B> {
 
     /// Writes `v` as four bytes in network order.
     ///
-    /// ```text
+    /// ```
+    /// # use octets_verified::*;
     /// let mut bytes = [0, 0, 0, 0];
     /// let mut cursor = OctetsMut::with_slice(&mut bytes);
     /// cursor.write_u32(0x01020304)?;
-    /// assert_eq!(cursor.buf(), [1, 2, 3, 4].as_slice());
+    /// assert_eq!(cursor.buf(), [1, 2, 3, 4]);
+    /// # Ok::<(), Box<dyn core::error::Error>>(())
     /// ```
     #[inline]
     pub fn write_u32(&mut self, v: u32) -> Result<()> {
@@ -120,11 +130,13 @@ impl<B: Buffer> Cursor<B> {
 
     /// Writes `v` as eight bytes in network order.
     ///
-    /// ```text
+    /// ```
+    /// # use octets_verified::*;
     /// let mut bytes = [9, 9, 9, 9, 9, 9, 9, 9];
     /// let mut cursor = OctetsMut::with_slice(&mut bytes);
     /// cursor.write_u64(0x0102)?;
-    /// assert_eq!(cursor.buf(), [0, 0, 0, 0, 0, 0, 1, 2].as_slice());
+    /// assert_eq!(cursor.buf(), [0, 0, 0, 0, 0, 0, 1, 2]);
+    /// # Ok::<(), Box<dyn core::error::Error>>(())
     /// ```
     #[inline]
     pub fn write_u64(&mut self, v: u64) -> Result<()> {
@@ -135,11 +147,13 @@ impl<B: Buffer> Cursor<B> {
     /// Writes `v` as a varint of `len` bytes (RFC 9000, section 16). `len` must be 1, 2, 4 or 8,
     /// and `v` must be below 2 to the power `8 * len - 2`. `varint_fits` checks both conditions.
     ///
-    /// ```text
+    /// ```
+    /// # use octets_verified::*;
     /// let mut bytes = [0, 0, 0];
     /// let mut cursor = OctetsMut::with_slice(&mut bytes);
     /// cursor.write_varint_with_len(37, 2)?;
-    /// assert_eq!(cursor.buf(), [0x40, 0x25, 0].as_slice());
+    /// assert_eq!(cursor.buf(), [0x40, 0x25, 0]);
+    /// # Ok::<(), Box<dyn core::error::Error>>(())
     /// ```
     ///
     /// # Requires
@@ -164,11 +178,13 @@ impl<B: Buffer> Cursor<B> {
     /// Writes the lowest `len` bytes of `v`, with the mark of the width over the top two bits. `len`
     /// must be 1, 2, 4 or 8. If a varint of `len` bytes holds `v`, it is that varint.
     ///
-    /// ```text
+    /// ```
+    /// # use octets_verified::*;
     /// let mut bytes = [0, 0, 0];
     /// let mut cursor = OctetsMut::with_slice(&mut bytes);
     /// cursor.write_marked(0x123456, 2)?;
-    /// assert_eq!(cursor.buf(), [0x74, 0x56, 0].as_slice());
+    /// assert_eq!(cursor.buf(), [0x74, 0x56, 0]);
+    /// # Ok::<(), Box<dyn core::error::Error>>(())
     /// ```
     ///
     /// # Requires
@@ -190,11 +206,13 @@ impl<B: Buffer> Cursor<B> {
     /// Writes `v` as a varint of the least width that holds it (RFC 9000, section 16). `v` must be
     /// below 2 to the power 62.
     ///
-    /// ```text
+    /// ```
+    /// # use octets_verified::*;
     /// let mut bytes = [0, 0, 0];
     /// let mut cursor = OctetsMut::with_slice(&mut bytes);
     /// cursor.write_varint(15293)?;
-    /// assert_eq!(cursor.buf(), [0x7b, 0xbd, 0].as_slice());
+    /// assert_eq!(cursor.buf(), [0x7b, 0xbd, 0]);
+    /// # Ok::<(), Box<dyn core::error::Error>>(())
     /// ```
     ///
     /// # Requires

@@ -24,12 +24,14 @@ impl<B: Buffer> Cursor<B> {
 
     /// Lends all bytes from the offset on for writing, and leaves the offset where it is.
     ///
-    /// ```text
+    /// ```
+    /// # use octets_verified::*;
     /// let mut bytes = [1, 2, 3];
     /// let mut cursor = OctetsMut::with_slice(&mut bytes);
     /// cursor.skip(1)?;
     /// cursor.as_mut()[0] = 9;
-    /// assert_eq!(cursor.buf(), [1, 9, 3].as_slice());
+    /// assert_eq!(cursor.buf(), [1, 9, 3]);
+    /// # Ok::<(), Box<dyn core::error::Error>>(())
     /// ```
     #[inline]
     pub fn as_mut(&mut self) -> &mut [u8] {
@@ -42,11 +44,12 @@ impl<B: Buffer> Cursor<B> {
     ///
     /// This is `slice` followed by `skip`, for a caller that knows that `len` bytes remain.
     ///
-    /// ```text
+    /// ```
+    /// # use octets_verified::*;
     /// let mut bytes = [0, 0, 0];
     /// let mut cursor = OctetsMut::with_slice(&mut bytes);
     /// cursor.lend(2).copy_from_slice(b"ab");
-    /// assert_eq!(cursor.buf(), [97, 98, 0].as_slice());
+    /// assert_eq!(cursor.buf(), [97, 98, 0]);
     /// assert_eq!(cursor.off(), 2);
     /// ```
     ///
@@ -69,11 +72,13 @@ impl<B: Buffer> Cursor<B> {
     ///
     /// This is `slice`, for a caller that knows that `len` bytes remain.
     ///
-    /// ```text
+    /// ```
+    /// # use octets_verified::*;
     /// let mut bytes = [0, 0, 0];
     /// let mut cursor = OctetsMut::with_slice(&mut bytes);
     /// cursor.lend_ahead(2).copy_from_slice(b"ab");
     /// assert_eq!(cursor.get_u8()?, 97);
+    /// # Ok::<(), Box<dyn core::error::Error>>(())
     /// ```
     ///
     /// # Requires
@@ -94,11 +99,12 @@ impl<B: Buffer> Cursor<B> {
     /// `len` must be at most the length of the buffer. `slice_last` does the same, but also needs
     /// `len` bytes from the offset on.
     ///
-    /// ```text
+    /// ```
+    /// # use octets_verified::*;
     /// let mut bytes = [0, 0, 0];
     /// let mut cursor = OctetsMut::with_slice(&mut bytes);
     /// cursor.lend_last(2).copy_from_slice(b"ab");
-    /// assert_eq!(cursor.buf(), [0, 97, 98].as_slice());
+    /// assert_eq!(cursor.buf(), [0, 97, 98]);
     /// ```
     ///
     /// # Requires
@@ -119,11 +125,13 @@ impl<B: Buffer> Cursor<B> {
     /// `cursor.lend_whole().split_at_mut(off)` lends the bytes on both sides of a position, as
     /// `split_at` does.
     ///
-    /// ```text
+    /// ```
+    /// # use octets_verified::*;
     /// let mut bytes = [0, 0];
     /// let mut cursor = OctetsMut::with_slice(&mut bytes);
     /// cursor.lend_whole().copy_from_slice(b"ab");
     /// assert_eq!(cursor.get_u8()?, 97);
+    /// # Ok::<(), Box<dyn core::error::Error>>(())
     /// ```
     #[inline]
     pub fn lend_whole(&mut self) -> &mut [u8] {
