@@ -35,6 +35,8 @@ class Function:
     promises: list = field(default_factory=list)
     result: str | None = None
     documentation: str = ""
+    header: str = ""
+    impl_head: str | None = None
 
     @property
     def is_method(self):
@@ -73,7 +75,7 @@ class Source:
         self.functions, self.exports, self.macros = [], [], set()
         self.needs_host = self.has_chain = False
         self.structures, self.invariants, self.errors = [], None, []
-        self.impl_type, self.formatter, self.documentation = None, None, ""
+        self.impl_type, self.impl_head, self.formatter, self.documentation = None, None, None, ""
 
     # Reading.
 
@@ -566,11 +568,11 @@ class Source:
         calls.check_impl(self)
         self.take_until("{")
         header = [token.text for token in self.tokens[start : self.at]]
-        was = self.impl_type
-        self.impl_type = impl_type_of(header) if is_impl and "for" not in header else None
+        was, is_own = (self.impl_type, self.impl_head), is_impl and "for" not in header
+        self.impl_type, self.impl_head = (impl_type_of(header), "".join(header)) if is_own else (None, None)
         self.take()
         self.items("}")
-        self.impl_type = was
+        self.impl_type, self.impl_head = was
         return self.take()
 
     # Functions.
@@ -600,7 +602,7 @@ class Source:
         if has_body and record.checks:
             self.put_checks(body, record, LEADING.fullmatch(header)[2])
         self.formatter = None
-        record.documentation = documentation
+        record.documentation, record.header, record.impl_head = documentation, LEADING.fullmatch(header)[3], self.impl_head
         self.functions.append(record)
         if EXPORT in attributes:
             record.result = result_of(header)

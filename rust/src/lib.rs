@@ -94,7 +94,7 @@
 //!
 //! The unverified part is small and covered by tests:
 //!
-//! - this crate's methods, which call the verified functions;
+//! - this crate's methods, which call the verified functions, and are generated where the signature is the same;
 //! - the comparison in [`varint_len`] and [`OctetsMut::put_varint`] that panics if no varint holds the number;
 //! - what [`OctetsMut::put_varint_with_len`] does with a number that doesn't fit the width (`src/unfit.rs`);
 //! - the end of the program if an allocation fails (`src/memory.rs`);
@@ -111,6 +111,7 @@
 extern crate alloc;
 
 mod cursors;
+mod forwards;
 mod memory;
 #[cfg(feature = "more")]
 pub mod more;
@@ -120,18 +121,10 @@ mod verified;
 mod writer;
 
 pub use cursors::{Octets, OctetsMut};
-pub use octets_verified::{BufferTooShortError, MAX_VAR_INT, Result};
+#[cfg(feature = "huffman_hpack")]
+pub use octets_verified::huffman_encoding_len;
+pub use octets_verified::{BufferTooShortError, MAX_VAR_INT, Result, varint_parse_len};
 pub use writer::OctetsWriter;
-
-/// Returns the number of bytes of a varint whose first byte is `first`: 1, 2, 4 or 8, as its two most significant bits say.
-///
-/// ```
-/// assert_eq!(octets::varint_parse_len(0x40), 2);
-/// ```
-///
-/// [Verified](crate#what-is-verified): every varint with this first byte has as many bytes as the result says, and there is
-/// such a varint.
-pub use octets_verified::varint_parse_len;
 
 /// Returns the number of bytes of the shortest varint that holds `v`: 1, 2, 4 or 8.
 ///
@@ -147,19 +140,4 @@ pub use octets_verified::varint_parse_len;
 /// [Verified](crate#what-is-verified): a varint with that number of bytes holds `v`, and no shorter varint does.
 pub const fn varint_len(v: u64) -> usize {
     octets_verified::varint_len(unfit::held(v))
-}
-
-/// Returns the number of bytes of the Huffman encoding of `src` (RFC 7541, section 5.2), or of `src` in lower case if
-/// `LOWER_CASE` is true.
-///
-/// It fails if the encoding is longer than `src`: then HPACK sends fewer bytes without the Huffman code.
-///
-/// ```
-/// assert_eq!(octets::huffman_encoding_len::<false>(b"www.example.com"), Ok(12));
-/// assert!(octets::huffman_encoding_len::<false>(b"\n").is_err());
-/// ```
-#[cfg(feature = "huffman_hpack")]
-#[inline]
-pub fn huffman_encoding_len<const LOWER_CASE: bool>(src: &[u8]) -> Result<usize> {
-    octets_verified::huffman_encoding_len::<LOWER_CASE>(src)
 }

@@ -32,47 +32,6 @@ pub use rattle_std::alloc::AllocError;
 /// API this crate has, so that Cargo accepts it as a replacement.
 pub const RELEASE: u32 = 2;
 
-/// The methods that both cursors have.
-macro_rules! both {
-    ($cursor:ident) => {
-        impl $cursor<'_> {
-            /// Reads a varint as [`get_varint`](Self::get_varint) does, and also fails if the varint is wider than its
-            /// value needs.
-            ///
-            /// It fails with [`VarintError::Short`] if no complete varint remains, and with [`VarintError::Overlong`] if a
-            /// shorter varint holds the same value. Then the offset is unchanged.
-            ///
-            /// ```
-            /// # use octets::{*, more::*};
-            /// let mut bytes = [0x25, 0x40, 0x25];
-            #[doc = concat!("let mut cursor = ", stringify!($cursor), "::with_slice(&mut bytes);")]
-            /// assert_eq!(cursor.get_varint_shortest(), Ok(37));
-            /// assert_eq!(cursor.get_varint_shortest(), Err(VarintError::Overlong));
-            /// assert_eq!(cursor.off(), 1);
-            /// ```
-            #[inline]
-            pub fn get_varint_shortest(&mut self) -> Result<u64, VarintError> {
-                self.0.get_varint_shortest()
-            }
-
-            /// Copies the bytes that remain, as [`to_vec`](Self::to_vec) does, but returns an error if the allocation fails.
-            ///
-            /// ```
-            /// # use octets::{*, more::*};
-            /// let mut bytes = [1, 2];
-            #[doc = concat!("let cursor = ", stringify!($cursor), "::with_slice(&mut bytes);")]
-            /// assert_eq!(cursor.try_to_vec()?, [1, 2]);
-            /// # Ok::<(), AllocError>(())
-            /// ```
-            pub fn try_to_vec(&self) -> Result<Vec<u8>, AllocError> {
-                Ok(self.0.to_vec(Global)?.into())
-            }
-        }
-    };
-}
-both!(Octets);
-both!(OctetsMut);
-
 impl Octets<'_> {
     /// Decodes as [`get_huffman_decoded`](Self::get_huffman_decoded) does, but returns an error if the allocation fails.
     ///
@@ -122,24 +81,6 @@ impl Octets<'_> {
         steps: &mut Steps,
     ) -> Result<Vec<u8>, DecodeError> {
         Ok(self.0.get_huffman_decoded_counted(Global, max_len, steps)?.into())
-    }
-
-    /// Decodes the bytes that remain as one Huffman-encoded string into the first bytes of `out`, advances the offset to the
-    /// end, and returns how many bytes of `out` it wrote. It allocates nothing.
-    ///
-    /// It fails with [`IntoError::NoRoom`] if the value is longer than `out`, and with [`IntoError::NotText`] if the bytes
-    /// aren't a Huffman-encoded string. Then `out` begins with the bytes that were decoded before the error, and the offset
-    /// is after the byte at which the decoder found the error.
-    ///
-    /// ```
-    /// # use octets::{*, more::*};
-    /// let mut out = [0; 4];
-    /// assert_eq!(Octets::with_slice(&[0x64, 0x02]).get_huffman_decoded_into(&mut out), Ok(3));
-    /// assert_eq!(out, *b"302\0");
-    /// ```
-    #[inline]
-    pub fn get_huffman_decoded_into(&mut self, out: &mut [u8]) -> Result<usize, IntoError> {
-        self.0.get_huffman_decoded_into(out)
     }
 
     /// Reads a string literal of HPACK (RFC 7541, section 5.2) whose value has at most `max_len` bytes, and advances the
@@ -199,7 +140,7 @@ impl Octets<'_> {
     }
 }
 
-impl<'a> OctetsMut<'a> {
+impl OctetsMut<'_> {
     /// Writes the string literal of `v` (RFC 7541, section 5.2), or of `v` in lower case if `LOWER_CASE` is true, and
     /// advances the offset past it. The literal is the length, in as few bytes as possible, and then the Huffman encoding
     /// if that is shorter than `v`, or otherwise the bytes themselves.
@@ -220,22 +161,6 @@ impl<'a> OctetsMut<'a> {
     #[inline]
     pub fn put_string<const LOWER_CASE: bool>(&mut self, v: &[u8]) -> crate::Result<()> {
         literal::write_string::<LOWER_CASE>(&mut self.0, literal_value(v))
-    }
-
-    /// Consumes the cursor, and returns the whole buffer with everything that was written. The result lives as long as the
-    /// borrow of the buffer.
-    ///
-    /// ```
-    /// # use octets::{*, more::*};
-    /// let mut bytes = [0; 2];
-    /// let mut cursor = OctetsMut::with_slice(&mut bytes);
-    /// cursor.put_u8(7)?;
-    /// assert_eq!(cursor.into_inner(), [7, 0]);
-    /// # Ok::<(), BufferTooShortError>(())
-    /// ```
-    #[inline]
-    pub fn into_inner(self) -> &'a mut [u8] {
-        self.0.into_inner()
     }
 }
 

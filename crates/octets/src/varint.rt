@@ -55,8 +55,8 @@ pub fn varint_fits(v: u64, width: usize) -> bool
     }
 }
 
-/// Returns the width in bytes of every varint whose first byte is `first`. The two most significant
-/// bits of that byte determine the width.
+/// Returns the number of bytes of a varint whose first byte is `first`: 1, 2, 4 or 8, as its two
+/// most significant bits say.
 ///
 /// ```
 /// assert_eq!(varint_parse_len(0x25), 1);

@@ -80,16 +80,16 @@ pub fn huffman_text_len<const LOWER_CASE: bool>(src: &[u8]) -> u128 {
     (bit_len(src, LOWER_CASE) + 7) / 8
 }
 
-/// Returns the length in bytes of the Huffman encoding of `src`, in lower case if `LOWER_CASE` is
-/// true (RFC 7541, section 5.2).
+/// Returns the number of bytes of the Huffman encoding of `src` (RFC 7541, section 5.2), or of `src`
+/// in lower case if `LOWER_CASE` is true.
 ///
-/// It fails if the encoding is longer than `src`, because a sender would then send the plain bytes.
+/// It fails if the encoding is longer than `src`: then HPACK sends fewer bytes without the Huffman
+/// code.
 ///
 /// ```
 /// # use octets_verified::*;
-/// assert_eq!(huffman_encoding_len::<false>(b"custom-key")?, 8);
-/// assert!(huffman_encoding_len::<false>(&[0]).is_err());
-/// # Ok::<(), Box<dyn core::error::Error>>(())
+/// assert_eq!(huffman_encoding_len::<false>(b"www.example.com"), Ok(12));
+/// assert_eq!(huffman_encoding_len::<false>(b"\n"), Err(BufferTooShortError));
 /// ```
 #[inline]
 pub fn huffman_encoding_len<const LOWER_CASE: bool>(src: &[u8]) -> Result<usize> {
