@@ -110,8 +110,9 @@
 
 extern crate alloc;
 
-mod cursors;
+// rustdoc shows the methods of a cursor in the order of these modules.
 mod forwards;
+mod cursors;
 mod memory;
 #[cfg(feature = "more")]
 pub mod more;
