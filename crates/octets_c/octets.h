@@ -202,6 +202,8 @@ const char *octets_status_text(octets_status status);
  * number, as a static string that the caller must not free. */
 const char *octets_status_name(octets_status status);
 
+/* The exports. tools/erase writes what follows from their doc comments. */
+
 /** octets_version: returns the version of the linked library as a number.
  * Returns OCTETS_VERSION if the linked library has the version of this header. */
 uint32_t octets_version(void);
@@ -230,27 +232,27 @@ octets_status octets_get_u64(const uint8_t *bytes, size_t bytes_len, size_t *OCT
     uint64_t *OCTETS_RESTRICT value);
 
 /** octets_get_varint: reads a varint of any width, even if a smaller width could hold its value.
- * Returns OCTETS_SHORT if and only if the buffer ends before the varint does, otherwise OCTETS_DONE. If at
- * least eight bytes remain, the buffer never ends before the varint. */
+ * Returns OCTETS_SHORT if and only if the buffer ends before the varint does, otherwise OCTETS_DONE. If at least
+ * eight bytes remain, the buffer never ends before the varint. */
 OCTETS_CHECKED(3, 4)
 octets_status octets_get_varint(const uint8_t *bytes, size_t bytes_len, size_t *OCTETS_RESTRICT off,
     uint64_t *OCTETS_RESTRICT value);
 
 /** octets_get_varint_shortest: reads a varint, and fails if it is wider than its value needs.
- * Returns OCTETS_SHORT if and only if the buffer ends before the varint does, OCTETS_OVERLONG if and only if
- * the varint is complete and wider than its value needs, otherwise OCTETS_DONE. */
+ * Returns OCTETS_SHORT if and only if the buffer ends before the varint does, OCTETS_OVERLONG if and only if the
+ * varint is complete and wider than its value needs, otherwise OCTETS_DONE. */
 OCTETS_CHECKED(3, 4)
 octets_status octets_get_varint_shortest(const uint8_t *bytes, size_t bytes_len,
     size_t *OCTETS_RESTRICT off, uint64_t *OCTETS_RESTRICT value);
 
-/** octets_varint_len: returns the smallest width of a varint that holds value: 1, 2, 4 or 8 bytes; or 0 if value is
- * above 4611686018427387903 (2^62 - 1). */
+/** octets_varint_len: returns the smallest width of a varint that holds value: 1, 2, 4 or 8 bytes; or 0 if value
+ * is above 4611686018427387903 (2^62 - 1). */
 size_t octets_varint_len(uint64_t value);
 
 /** octets_skip: moves the offset past len bytes.
  * Returns OCTETS_SHORT if and only if fewer than len bytes remain, otherwise OCTETS_DONE.
- * If size_t has 32 bits, C cuts a len of 64 bits to its low 32 bits without a warning. To skip as many bytes as a
- * varint says, call octets_get_bytes_u64. */
+ * If size_t has 32 bits, C cuts a len of 64 bits to its low 32 bits without a warning. To skip as many bytes as
+ * a varint says, call octets_get_bytes_u64. */
 OCTETS_CHECKED(3)
 octets_status octets_skip(const uint8_t *bytes, size_t bytes_len, size_t *OCTETS_RESTRICT off,
     size_t len);
@@ -286,6 +288,12 @@ octets_status octets_get_bytes_with_u16_length(const uint8_t *bytes, size_t byte
 OCTETS_CHECKED(3, 4)
 octets_status octets_get_bytes_with_varint_length(const uint8_t *bytes, size_t bytes_len,
     size_t *OCTETS_RESTRICT off, octets_run *OCTETS_RESTRICT run);
+
+/** octets_put_bytes: copies all bytes of value to the buffer.
+ * Returns OCTETS_SHORT if and only if fewer than value_len bytes remain, otherwise OCTETS_DONE. */
+OCTETS_CHECKED(3)
+octets_status octets_put_bytes(uint8_t *OCTETS_RESTRICT bytes, size_t bytes_len,
+    size_t *OCTETS_RESTRICT off, const uint8_t *value, size_t value_len);
 
 /** octets_put_u8, octets_put_u16, octets_put_u24, octets_put_u32, octets_put_u64: write value as 1, 2, 3, 4 or 8
  * bytes, the most significant byte first. octets_put_u24 writes the low 24 bits of value.
@@ -324,16 +332,10 @@ OCTETS_CHECKED(3)
 octets_status octets_put_varint_with_len(uint8_t *OCTETS_RESTRICT bytes, size_t bytes_len,
     size_t *OCTETS_RESTRICT off, uint64_t value, size_t width);
 
-/** octets_put_bytes: copies all bytes of value to the buffer.
- * Returns OCTETS_SHORT if and only if fewer than value_len bytes remain, otherwise OCTETS_DONE. */
-OCTETS_CHECKED(3)
-octets_status octets_put_bytes(uint8_t *OCTETS_RESTRICT bytes, size_t bytes_len,
-    size_t *OCTETS_RESTRICT off, const uint8_t *value, size_t value_len);
-
-/** octets_put_bytes_with_varint_length: writes value_len as a varint of the smallest width that holds it, and then
- * all bytes of value.
- * Returns OCTETS_LONG if value_len is above 4611686018427387903 (2^62 - 1); otherwise OCTETS_SHORT if fewer bytes
- * remain than the varint and value have together; otherwise OCTETS_DONE. */
+/** octets_put_bytes_with_varint_length: writes value_len as a varint of the smallest width that holds it, and
+ * then all bytes of value.
+ * Returns OCTETS_LONG if value_len is above 4611686018427387903 (2^62 - 1); otherwise OCTETS_SHORT if fewer
+ * bytes remain than the varint and value have together; otherwise OCTETS_DONE. */
 OCTETS_CHECKED(3)
 octets_status octets_put_bytes_with_varint_length(uint8_t *OCTETS_RESTRICT bytes, size_t bytes_len,
     size_t *OCTETS_RESTRICT off, const uint8_t *value, size_t value_len);
@@ -354,37 +356,21 @@ OCTETS_CHECKED(4)
 octets_status octets_huffman_text_len(const uint8_t *value, size_t value_len, bool lower_case,
     size_t *OCTETS_RESTRICT len);
 
-/** octets_put_huffman_encoded: writes the Huffman encoding of value. If lower_case is true, A to Z are encoded
- * as a to z. The buffer must be initialized (see above). OCTETS_TEXT_MOST(value_len) bytes always suffice.
+/** octets_put_huffman_encoded: writes the Huffman encoding of value. If lower_case is true, A to Z are encoded as
+ * a to z. The buffer must be initialized (see above). OCTETS_TEXT_MOST(value_len) bytes always suffice.
  * Returns OCTETS_SHORT if and only if fewer bytes remain than the encoding has, otherwise OCTETS_DONE.
  * On error: unless the offset was past the end of the buffer, a prefix of the encoding was written, and the
  * offset is after it. The encoding is divided into pieces: one of eight bytes for each full 64 bits of the
- * codes. The remaining bits are padded to whole bytes. If there are at least four of these bytes, the first
- * four are one piece. Each other byte is a piece of its own. The prefix ends before the first piece that
- * doesn't fit. */
+ * codes. The remaining bits are padded to whole bytes. If there are at least four of these bytes, the first four
+ * are one piece. Each other byte is a piece of its own. The prefix ends before the first piece that doesn't fit. */
 OCTETS_CHECKED(3)
 octets_status octets_put_huffman_encoded(uint8_t *OCTETS_RESTRICT bytes, size_t bytes_len,
     size_t *OCTETS_RESTRICT off, const uint8_t *value, size_t value_len, bool lower_case);
 
-/** octets_next_piece: writes the next piece of the encoding of value to the first *len bytes of *piece. The
- * pieces are those into which octets_put_huffman_encoded divides the encoding. *len is the size of the piece:
- * 8, 4 or 1, or 0 if no piece was left. The other bytes of *piece are unchanged. Zero-initialize *place before
- * the first call, and pass the same value, lower_case and place to each call.
- * Returns OCTETS_UNFIT if and only if at least one of these is true: `count` is 64 or more; `bits` has a 1 after
- * its first `count` bits; `at` is above value_len; `at` is below value_len while `given` isn't 0. Otherwise it
- * returns OCTETS_DONE. A zero-initialized state, and every state that a call with the same value left, is
- * accepted. A wrong state that meets none of these conditions isn't detected, for example if value was changed.
- * The call then continues with the contents of `bits`, and with the bytes of value from index `at` on, whatever
- * these are. */
-OCTETS_CHECKED(4, 5, 6)
-octets_status octets_next_piece(const uint8_t *value, size_t value_len, bool lower_case,
-    octets_place *OCTETS_RESTRICT place, uint8_t (*OCTETS_RESTRICT piece)[8],
-    size_t *OCTETS_RESTRICT len);
-
 /** octets_get_huffman_decoded: decodes all bytes from the offset to the end of the buffer, writes the value to
- * the first *len bytes of out, and leaves the other bytes of out unchanged. If other bytes follow the
- * encoding, pass as bytes_len only the number of bytes from the start of the buffer to the end of the encoding.
- * An out_len of OCTETS_VALUE_MOST(bytes_len - *off) always suffices.
+ * the first *len bytes of out, and leaves the other bytes of out unchanged. If other bytes follow the encoding,
+ * pass as bytes_len only the number of bytes from the start of the buffer to the end of the encoding. An out_len
+ * of OCTETS_VALUE_MOST(bytes_len - *off) always suffices.
  * Returns OCTETS_SHORT if and only if the offset is past the end of the buffer. Otherwise it returns OCTETS_DONE
  * if the encoding has no error, and else its first error: OCTETS_NO_ROOM if out has no space for the next byte
  * of the value; OCTETS_NOT_TEXT if the next code is that of the symbol EOS, or if the last bits are neither a
@@ -398,11 +384,26 @@ octets_status octets_get_huffman_decoded(const uint8_t *bytes, size_t bytes_len,
     size_t *OCTETS_RESTRICT off, uint8_t *OCTETS_RESTRICT out, size_t out_len,
     size_t *OCTETS_RESTRICT len);
 
+/** octets_next_piece: writes the next piece of the encoding of value to the first *len bytes of *piece. The
+ * pieces are those into which octets_put_huffman_encoded divides the encoding. *len is the size of the piece: 8,
+ * 4 or 1, or 0 if no piece was left. The other bytes of *piece are unchanged. Zero-initialize *place before the
+ * first call, and pass the same value, lower_case and place to each call.
+ * Returns OCTETS_UNFIT if and only if at least one of these is true: `count` is 64 or more; `bits` has a 1 after
+ * its first `count` bits; `at` is above value_len; `at` is below value_len while `given` isn't 0. Otherwise it
+ * returns OCTETS_DONE. A zero-initialized state, and every state that a call with the same value left, is
+ * accepted. A wrong state that meets none of these conditions isn't detected, for example if value was changed.
+ * The call then continues with the contents of `bits`, and with the bytes of value from index `at` on, whatever
+ * these are. */
+OCTETS_CHECKED(4, 5, 6)
+octets_status octets_next_piece(const uint8_t *value, size_t value_len, bool lower_case,
+    octets_place *OCTETS_RESTRICT place, uint8_t (*OCTETS_RESTRICT piece)[8],
+    size_t *OCTETS_RESTRICT len);
+
 /** octets_get_string: reads a string literal of HPACK (RFC 7541, section 5.2): a length, which need not be
  * encoded in its shortest form, and then a value or the Huffman encoding of a value. The literal is read from
- * bytes, of bytes_len bytes, at *off. The value is written to out, which has space for out_len bytes; *len is the
- * length of the value. The other bytes of out are unchanged, and the offset moves past the literal. An out_len of
- * OCTETS_VALUE_MOST(bytes_len - *off) always suffices.
+ * bytes, of bytes_len bytes, at *off. The value is written to out, which has space for out_len bytes; *len is
+ * the length of the value. The other bytes of out are unchanged, and the offset moves past the literal. An
+ * out_len of OCTETS_VALUE_MOST(bytes_len - *off) always suffices.
  * Returns the first of these that applies:
  * - OCTETS_LONG if the length is encoded in more than six bytes, or is greater than 4294967295;
  * - OCTETS_SHORT if the buffer ends before the length does, or fewer bytes follow the length than it says;

@@ -10,7 +10,7 @@ from .names import Names, names_of
 from .source import EXPORT, Refused, Source, prelude
 from .tokens import tokens_of
 
-KEYS = {"name", "version", "license", "description", "checks", "measures", "usize_of_32_bits", "small_std", "examples", "exports", "forwards"}
+KEYS = {"name", "version", "license", "description", "checks", "measures", "usize_of_32_bits", "small_std", "examples", "exports", "forwards", "header"}
 TEST_MODULE = re.compile(r"#\[cfg\(test\)\]\s*(?:pub(?:\([^)]*\))?\s+)?mod\s+(\w+)\s*;")
 STD_NAMES = Path(__file__).with_name("std_names.txt")
 

@@ -7,7 +7,7 @@ import subprocess
 import tomllib
 from pathlib import Path
 
-from . import c_library, forwards, package
+from . import c_header, c_library, forwards, package
 from .crate import Crate, listed_crates, measures_of
 from .known import OURS
 from .names import Names, names_of
@@ -108,7 +108,7 @@ def files_of(crate, texts, crates, to, over):
     if not is_left_alone(to):
         files["rustfmt.toml"] = "# The eraser alone writes the sources.\ndisable_all_formatting = true\n"
     files["README.md"] = package.readme(crate, crate.functions())
-    files |= forwards.written(crate)
+    files |= forwards.written(crate) | c_header.written(crate, to / crate.name)
     if crate.exports:
         place = os.path.relpath(over.parent / "rattle_c", to / crate.name / "c")
         rattle_c = f'path = "{place}", version = "{version_of(over.parent / "rattle_c")}"'

@@ -38,14 +38,28 @@ fn fault_written(fault: ValueError, room: usize) -> usize
     }
 }
 
-/// Reads a string literal into the beginning of `out`, whose length is the limit, and moves the
-/// offset past the literal. `len` is the number of bytes that were written, even if the call fails.
+/// Reads a string literal of HPACK (RFC 7541, section 5.2): a length, which need not be encoded in
+/// its shortest form, and then a value or the Huffman encoding of a value. The literal is read from
+/// bytes, of bytes_len bytes, at *off. The value is written to out, which has space for out_len
+/// bytes; *len is the length of the value. The other bytes of out are unchanged, and the offset
+/// moves past the literal. An out_len of OCTETS_VALUE_MOST(bytes_len - *off) always suffices.
 ///
-/// The call fails as long if the length of the literal has more than six bytes or exceeds
-/// 4294967295. Otherwise it fails as short if the length or the data are incomplete. Otherwise the
-/// status says the first fault of the data: `NO_ROOM` if the value has more bytes than `out`, and
-/// `NOT_TEXT` if the data aren't a Huffman encoding. After an error the offset is unchanged. `out`
-/// is unchanged too, except that it begins with what was decoded of Huffman-encoded data.
+/// Returns the first of these that applies:
+///
+/// - OCTETS_LONG if the length is encoded in more than six bytes, or is greater than 4294967295;
+///
+/// - OCTETS_SHORT if the buffer ends before the length does, or fewer bytes follow the length than
+/// it says;
+///
+/// - OCTETS_NO_ROOM or OCTETS_NOT_TEXT for the first error in the value, as from
+/// octets_get_huffman_decoded;
+///
+/// - OCTETS_DONE.
+///
+/// On error: the offset is unchanged. After OCTETS_SHORT or OCTETS_LONG, nothing was written to
+/// out, and *len is 0. After OCTETS_NOT_TEXT or OCTETS_NO_ROOM, the first *len bytes of out are
+/// what was decoded before the error if the value is Huffman-encoded; otherwise nothing was written
+/// to out, and *len is 0.
 #[unsafe(no_mangle)]
 pub extern "C" fn octets_get_string(
     bytes: &[u8],
@@ -121,11 +135,13 @@ fn put_literal(cursor: &mut OctetsMut<'_>, value: &[u8], lower_case: bool) -> Re
     }
 }
 
-/// Writes the string literal of `value`, in lower case if `lower_case` is true. The data are the
-/// Huffman encoding exactly if it is shorter, and the length is the shortest one.
+/// Writes the string literal of value: its length in the shortest form, and then the Huffman
+/// encoding of value if that is shorter than value, or else value itself. If lower_case is true, A
+/// to Z are written as a to z, in both forms. The buffer must be initialized (see above).
+/// OCTETS_LITERAL_MOST(value_len) bytes always suffice.
 ///
-/// The call fails as long if `value` has more than 4294967295 bytes. Otherwise it fails as short if
-/// fewer bytes remain than the literal has. After an error nothing has changed.
+/// Returns OCTETS_LONG if value_len exceeds 4294967295; otherwise OCTETS_SHORT if fewer bytes
+/// remain than the literal has; otherwise OCTETS_DONE.
 #[unsafe(no_mangle)]
 pub extern "C" fn octets_put_string(
     bytes: &mut [u8],

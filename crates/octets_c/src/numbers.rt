@@ -6,7 +6,10 @@ ghost use Rattle.octets_c.specs.Statuses.{done, short};
 use crate::cursors::{over, read_at};
 use crate::status::{DONE, SHORT};
 
-/// Reads a number of one byte. It fails if no byte remains, and then changes nothing.
+/// Read an integer of 1, 2, 3, 4 or 8 bytes, the most significant byte first, and set *value to it.
+///
+/// Returns OCTETS_SHORT if and only if fewer bytes remain than the integer has, otherwise
+/// OCTETS_DONE.
 #[unsafe(no_mangle)]
 pub extern "C" fn octets_get_u8(bytes: &[u8], off: &mut usize, value: &mut u8) -> u8
     ensures fits { (result ≡ done) ↔ (off.old + 1 ≤ length bytes.now) }
@@ -18,7 +21,7 @@ pub extern "C" fn octets_get_u8(bytes: &[u8], off: &mut usize, value: &mut u8) -
     read_at!(bytes, off, value, 1, cursor => cursor.get_u8())
 }
 
-/// Reads a number of two bytes. It fails if fewer remain, and then changes nothing.
+/// As octets_get_u8.
 #[unsafe(no_mangle)]
 pub extern "C" fn octets_get_u16(bytes: &[u8], off: &mut usize, value: &mut u16) -> u8
     ensures fits { (result ≡ done) ↔ (off.old + 2 ≤ length bytes.now) }
@@ -30,7 +33,7 @@ pub extern "C" fn octets_get_u16(bytes: &[u8], off: &mut usize, value: &mut u16)
     read_at!(bytes, off, value, 2, cursor => cursor.get_u16())
 }
 
-/// Reads a number of three bytes. It fails if fewer remain, and then changes nothing.
+/// As octets_get_u8.
 #[unsafe(no_mangle)]
 pub extern "C" fn octets_get_u24(bytes: &[u8], off: &mut usize, value: &mut u32) -> u8
     ensures fits { (result ≡ done) ↔ (off.old + 3 ≤ length bytes.now) }
@@ -42,7 +45,7 @@ pub extern "C" fn octets_get_u24(bytes: &[u8], off: &mut usize, value: &mut u32)
     read_at!(bytes, off, value, 3, cursor => cursor.get_u24())
 }
 
-/// Reads a number of four bytes. It fails if fewer remain, and then changes nothing.
+/// As octets_get_u8.
 #[unsafe(no_mangle)]
 pub extern "C" fn octets_get_u32(bytes: &[u8], off: &mut usize, value: &mut u32) -> u8
     ensures fits { (result ≡ done) ↔ (off.old + 4 ≤ length bytes.now) }
@@ -54,7 +57,7 @@ pub extern "C" fn octets_get_u32(bytes: &[u8], off: &mut usize, value: &mut u32)
     read_at!(bytes, off, value, 4, cursor => cursor.get_u32())
 }
 
-/// Reads a number of eight bytes. It fails if fewer remain, and then changes nothing.
+/// As octets_get_u8.
 #[unsafe(no_mangle)]
 pub extern "C" fn octets_get_u64(bytes: &[u8], off: &mut usize, value: &mut u64) -> u8
     ensures fits { (result ≡ done) ↔ (off.old + 8 ≤ length bytes.now) }

@@ -149,14 +149,17 @@ fn give_piece(place: &mut Place, value: &[u8], to_lower: bool, piece: &mut [u8; 
     give_last(place, piece)
 }
 
-/// Gives the next piece of the Huffman encoding of `value`, in lower case if `lower_case` is true.
-/// The piece is the first `len` bytes of `piece`, which are 8, 4 or 1; the other bytes are
-/// unchanged. If `len` is 0, no piece is left.
+/// Writes the next piece of the encoding of value to the first *len bytes of *piece. The pieces are
+/// those into which octets_put_huffman_encoded divides the encoding. *len is the size of the piece:
+/// 8, 4 or 1, or 0 if no piece was left. The other bytes of *piece are unchanged. Zero-initialize
+/// *place before the first call, and pass the same value, lower_case and place to each call.
 ///
-/// The call fails as unfit, and changes nothing, exactly if `place` has other bits set than the
-/// `count` that wait, or 64 of them; or is past `value`; or has last bytes given before all of
-/// `value` was taken. No call with `value` leaves such a place. If another place wasn't left by a
-/// call, that isn't detected.
+/// Returns OCTETS_UNFIT if and only if at least one of these is true: `count` is 64 or more; `bits`
+/// has a 1 after its first `count` bits; `at` is above value_len; `at` is below value_len while
+/// `given` isn't 0. Otherwise it returns OCTETS_DONE. A zero-initialized state, and every state
+/// that a call with the same value left, is accepted. A wrong state that meets none of these
+/// conditions isn't detected, for example if value was changed. The call then continues with the
+/// contents of `bits`, and with the bytes of value from index `at` on, whatever these are.
 #[unsafe(no_mangle)]
 pub extern "C" fn octets_next_piece(
     value: &[u8],

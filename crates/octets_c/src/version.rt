@@ -1,7 +1,9 @@
 //! The version number of the library.
 ghost use Rattle.std.specs.Prelude.{◌≡◌};
 
-/// Returns the version of these calls as one number: 307 is 0.3.7.
+/// Returns the version of the linked library as a number.
+///
+/// Returns OCTETS_VERSION if the linked library has the version of this header.
 #[unsafe(no_mangle)]
 pub extern "C" fn octets_version() -> u32
     ensures { result ≡ 307 }

@@ -11,7 +11,9 @@ use crate::cursors::write_at;
 use crate::status::{DONE, LONG, SHORT, UNFIT};
 use octets::{BufferTooShortError, MAX_VAR_INT, OctetsMut, Result, varint_fits, varint_len};
 
-/// Writes all bytes of `value`. It fails if fewer bytes remain, and then changes nothing.
+/// Copies all bytes of value to the buffer.
+///
+/// Returns OCTETS_SHORT if and only if fewer than value_len bytes remain, otherwise OCTETS_DONE.
 #[unsafe(no_mangle)]
 pub extern "C" fn octets_put_bytes(bytes: &mut [u8], off: &mut usize, value: &[u8]) -> u8
     ensures fits { (result ≡ done) ↔ (off.old + length value.now ≤ length bytes.old) }
@@ -23,7 +25,11 @@ pub extern "C" fn octets_put_bytes(bytes: &mut [u8], off: &mut usize, value: &[u
     write_at!(bytes, off, cursor => cursor.put_bytes(value))
 }
 
-/// Writes `value` as one byte. It fails if no byte remains, and then changes nothing.
+/// Write value as 1, 2, 3, 4 or 8 bytes, the most significant byte first. octets_put_u24 writes the
+/// low 24 bits of value.
+///
+/// Returns OCTETS_SHORT if and only if fewer bytes remain than are to be written, otherwise
+/// OCTETS_DONE.
 #[unsafe(no_mangle)]
 pub extern "C" fn octets_put_u8(bytes: &mut [u8], off: &mut usize, value: u8) -> u8
     ensures fits { (result ≡ done) ↔ (off.old + 1 ≤ length bytes.old) }
@@ -35,8 +41,7 @@ pub extern "C" fn octets_put_u8(bytes: &mut [u8], off: &mut usize, value: u8) ->
     write_at!(bytes, off, cursor => cursor.write_u8(value))
 }
 
-/// Writes `value` as two bytes, in network order. It fails if fewer remain, and then changes
-/// nothing.
+/// As octets_put_u8.
 #[unsafe(no_mangle)]
 pub extern "C" fn octets_put_u16(bytes: &mut [u8], off: &mut usize, value: u16) -> u8
     ensures fits { (result ≡ done) ↔ (off.old + 2 ≤ length bytes.old) }
@@ -48,8 +53,7 @@ pub extern "C" fn octets_put_u16(bytes: &mut [u8], off: &mut usize, value: u16) 
     write_at!(bytes, off, cursor => cursor.write_u16(value))
 }
 
-/// Writes the lowest three bytes of `value`, in network order. It fails if fewer remain, and then
-/// changes nothing.
+/// As octets_put_u8.
 #[unsafe(no_mangle)]
 pub extern "C" fn octets_put_u24(bytes: &mut [u8], off: &mut usize, value: u32) -> u8
     ensures fits { (result ≡ done) ↔ (off.old + 3 ≤ length bytes.old) }
@@ -66,8 +70,7 @@ pub extern "C" fn octets_put_u24(bytes: &mut [u8], off: &mut usize, value: u32) 
     write_at!(bytes, off, cursor => cursor.write_u24(value))
 }
 
-/// Writes `value` as four bytes, in network order. It fails if fewer remain, and then changes
-/// nothing.
+/// As octets_put_u8.
 #[unsafe(no_mangle)]
 pub extern "C" fn octets_put_u32(bytes: &mut [u8], off: &mut usize, value: u32) -> u8
     ensures fits { (result ≡ done) ↔ (off.old + 4 ≤ length bytes.old) }
@@ -79,8 +82,7 @@ pub extern "C" fn octets_put_u32(bytes: &mut [u8], off: &mut usize, value: u32) 
     write_at!(bytes, off, cursor => cursor.write_u32(value))
 }
 
-/// Writes `value` as eight bytes, in network order. It fails if fewer remain, and then changes
-/// nothing.
+/// As octets_put_u8.
 #[unsafe(no_mangle)]
 pub extern "C" fn octets_put_u64(bytes: &mut [u8], off: &mut usize, value: u64) -> u8
     ensures fits { (result ≡ done) ↔ (off.old + 8 ≤ length bytes.old) }
@@ -92,10 +94,10 @@ pub extern "C" fn octets_put_u64(bytes: &mut [u8], off: &mut usize, value: u64) 
     write_at!(bytes, off, cursor => cursor.write_u64(value))
 }
 
-/// Writes `value` as a varint of the least width that holds it (RFC 9000, section 16).
+/// Writes value as a varint of the smallest width that holds it.
 ///
-/// It fails as unfit if no varint holds `value`. Otherwise it fails as short if fewer bytes remain
-/// than that width. After an error nothing has changed.
+/// Returns OCTETS_UNFIT if value is above 4611686018427387903 (2^62 - 1); otherwise OCTETS_SHORT if
+/// fewer bytes remain than the varint has; otherwise OCTETS_DONE.
 #[unsafe(no_mangle)]
 pub extern "C" fn octets_put_varint(bytes: &mut [u8], off: &mut usize, value: u64) -> u8
     ensures fits { (result ≡ done)
@@ -113,10 +115,10 @@ pub extern "C" fn octets_put_varint(bytes: &mut [u8], off: &mut usize, value: u6
     write_at!(bytes, off, cursor => cursor.write_varint(value))
 }
 
-/// Writes `value` as a varint of `width` bytes (RFC 9000, section 16).
+/// Writes value as a varint of width bytes.
 ///
-/// It fails as unfit if `width` isn't 1, 2, 4 or 8 or doesn't hold `value`. Otherwise it fails as
-/// short if fewer bytes remain. After an error nothing has changed.
+/// Returns OCTETS_UNFIT if width isn't 1, 2, 4 or 8, or if value isn't below 2^(8 * width - 2);
+/// otherwise OCTETS_SHORT if fewer than width bytes remain; otherwise OCTETS_DONE.
 #[tactic(auto, using(octets::proofs::CallerLemmas::length_varint))]
 #[unsafe(no_mangle)]
 pub extern "C" fn octets_put_varint_with_len(
@@ -178,10 +180,10 @@ fn put_prefixed(cursor: &mut OctetsMut<'_>, value: &[u8]) -> Result<()>
     put_parts(cursor, value)
 }
 
-/// Writes the length of `value` as a varint of the least width, and then all bytes of `value`.
+/// Writes value_len as a varint of the smallest width that holds it, and then all bytes of value.
 ///
-/// It fails as long if no varint holds the length. Otherwise it fails as short if fewer bytes
-/// remain than both have. After an error nothing has changed.
+/// Returns OCTETS_LONG if value_len is above 4611686018427387903 (2^62 - 1); otherwise OCTETS_SHORT
+/// if fewer bytes remain than the varint and value have together; otherwise OCTETS_DONE.
 #[unsafe(no_mangle)]
 pub extern "C" fn octets_put_bytes_with_varint_length(
     bytes: &mut [u8],

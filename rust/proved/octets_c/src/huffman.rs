@@ -6,9 +6,12 @@ use crate::cursors::at;
 use crate::status::{DONE, LONG, NO_ROOM, NOT_TEXT, SHORT};
 use octets::{IntoError, OctetsMut, Result, huffman_encoding_len, huffman_text_len};
 
-/// Computes the length of the Huffman encoding of `value`, in lower case if `lower_case` is true.
+/// Sets *len to the number of bytes of the Huffman encoding of value. If lower_case is true, A to Z
+/// are encoded as a to z.
 ///
-/// It fails if the encoding is longer than `value`, and then changes nothing.
+/// Returns OCTETS_SHORT if and only if the encoding is longer than value, otherwise OCTETS_DONE.
+/// After OCTETS_SHORT, send value itself, which is shorter than the encoding; if lower_case is
+/// true, convert value to lower case yourself.
 #[inline]
 pub fn octets_huffman_encoding_len(value: &[u8], lower_case: bool, len: &mut usize) -> u8 {
     let answer = if lower_case {
@@ -23,10 +26,10 @@ pub fn octets_huffman_encoding_len(value: &[u8], lower_case: bool, len: &mut usi
     DONE
 }
 
-/// Computes the length of the Huffman encoding of `value`, in lower case if `lower_case` is true,
-/// even if the encoding is longer than `value`.
+/// Sets *len as octets_huffman_encoding_len does, but succeeds also if the encoding is longer than
+/// value.
 ///
-/// It fails as long if the length doesn't fit its type, and then changes nothing.
+/// Returns OCTETS_LONG if and only if size_t can't hold the length, otherwise OCTETS_DONE.
 #[inline]
 pub fn octets_huffman_text_len(value: &[u8], lower_case: bool, len: &mut usize) -> u8 {
     let text_len = if lower_case {
@@ -51,11 +54,17 @@ fn put_text(cursor: &mut OctetsMut<'_>, value: &[u8], lower_case: bool) -> Resul
     }
 }
 
-/// Writes the Huffman encoding of `value`, in lower case if `lower_case` is true.
+/// Writes the Huffman encoding of value. If lower_case is true, A to Z are encoded as a to z. The
+/// buffer must be initialized (see above). OCTETS_TEXT_MOST(value_len) bytes always suffice.
 ///
-/// It fails if the encoding is longer than what remains. It has then written a prefix of the
-/// encoding, and the offset is past that prefix: its pieces of eight, four and single bytes, up to
-/// the first that doesn't fit. If the offset is past the end, nothing changes.
+/// Returns OCTETS_SHORT if and only if fewer bytes remain than the encoding has, otherwise
+/// OCTETS_DONE.
+///
+/// On error: unless the offset was past the end of the buffer, a prefix of the encoding was
+/// written, and the offset is after it. The encoding is divided into pieces: one of eight bytes for
+/// each full 64 bits of the codes. The remaining bits are padded to whole bytes. If there are at
+/// least four of these bytes, the first four are one piece. Each other byte is a piece of its own.
+/// The prefix ends before the first piece that doesn't fit.
 #[inline]
 pub fn octets_put_huffman_encoded(
     bytes: &mut [u8],
@@ -94,13 +103,21 @@ pub(crate) fn stop_written(why: IntoError, room: usize) -> usize {
     }
 }
 
-/// Decodes all bytes from the offset on into the beginning of `out`, whose length is the limit.
-/// `len` is the number of bytes that were written, even if the call fails.
+/// Decodes all bytes from the offset to the end of the buffer, writes the value to the first *len
+/// bytes of out, and leaves the other bytes of out unchanged. If other bytes follow the encoding,
+/// pass as bytes_len only the number of bytes from the start of the buffer to the end of the
+/// encoding. An out_len of OCTETS_VALUE_MOST(bytes_len - *off) always suffices.
 ///
-/// The status says which fault came first: it is `NO_ROOM` if the value has more bytes than `out`,
-/// and `NOT_TEXT` if a symbol is the end code, or if the last bits are neither a code nor padding.
-/// The offset is then past the byte in which that symbol ends, or at the end if there is no such
-/// symbol. If the offset is past the end, the call fails as short, and only `len` changes.
+/// Returns OCTETS_SHORT if and only if the offset is past the end of the buffer. Otherwise it
+/// returns OCTETS_DONE if the encoding has no error, and else its first error: OCTETS_NO_ROOM if
+/// out has no space for the next byte of the value; OCTETS_NOT_TEXT if the next code is that of the
+/// symbol EOS, or if the last bits are neither a code nor a padding of at most seven one bits.
+///
+/// On error: the first *len bytes of out are what was decoded before the error. If out has no space
+/// for a symbol, or the symbol is EOS, the offset is now after the byte of the buffer in which the
+/// code of this symbol ends. If the last bits are the error, the offset is at the end of the
+/// buffer. Decoding can't be resumed at either offset, since a code may begin within a byte. An
+/// offset that was past the end of the buffer is unchanged.
 #[inline]
 pub fn octets_get_huffman_decoded(
     bytes: &[u8],

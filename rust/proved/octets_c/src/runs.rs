@@ -16,7 +16,12 @@ pub struct Run {
     pub len: usize,
 }
 
-/// Moves the offset past `len` bytes. It fails if fewer remain, and then changes nothing.
+/// Moves the offset past len bytes.
+///
+/// Returns OCTETS_SHORT if and only if fewer than len bytes remain, otherwise OCTETS_DONE.
+///
+/// If size_t has 32 bits, C cuts a len of 64 bits to its low 32 bits without a warning. To skip as
+/// many bytes as a varint says, call octets_get_bytes_u64.
 #[inline]
 pub fn octets_skip(bytes: &[u8], off: &mut usize, len: usize) -> u8 {
     let Ok(mut cursor) = at(bytes, *off) else {
@@ -29,8 +34,12 @@ pub fn octets_skip(bytes: &[u8], off: &mut usize, len: usize) -> u8 {
     DONE
 }
 
-/// Finds the next `len` bytes, and moves the offset past them. It fails if fewer remain, and then
-/// changes nothing.
+/// Sets *run to the next len bytes, and moves the offset past them. It copies no byte.
+///
+/// Returns OCTETS_SHORT if and only if fewer than len bytes remain, otherwise OCTETS_DONE.
+///
+/// If size_t has 32 bits, C cuts a len of 64 bits to its low 32 bits without a warning: a length of
+/// 2^32 + 5 becomes 5. For a length that was read as a varint, call octets_get_bytes_u64.
 #[inline]
 pub fn octets_get_bytes(bytes: &[u8], off: &mut usize, len: usize, run: &mut Run) -> u8 {
     let from = *off;
@@ -41,8 +50,7 @@ pub fn octets_get_bytes(bytes: &[u8], off: &mut usize, len: usize, run: &mut Run
     DONE
 }
 
-/// Finds the next `len` bytes as `octets_get_bytes` does. The length has 64 bits, as the value of a
-/// varint has, so that none is cut where `usize` has 32 bits.
+/// Does what octets_get_bytes does, with a len of 64 bits.
 #[inline]
 pub fn octets_get_bytes_u64(bytes: &[u8], off: &mut usize, len: u64, run: &mut Run) -> u8 {
     if len > bytes.len() as u64 {
@@ -70,10 +78,16 @@ fn tell(view: Result<Octets<'_>>, end: usize, run: &mut Run) -> u8 {
     DONE
 }
 
-/// Reads a length of one byte, finds as many bytes after it, and moves the offset past both.
+/// Read a length, set *run to that many bytes after the length, and move the offset past these
+/// bytes. The length is an integer of one or two bytes (the most significant first), or a varint of
+/// any width. They copy no byte.
 ///
-/// If fewer bytes follow, the call fails and leaves the offset after the length. If the length is
-/// incomplete, it fails and changes nothing.
+/// Returns OCTETS_SHORT if and only if the length is incomplete or fewer bytes follow than it says,
+/// otherwise OCTETS_DONE.
+///
+/// On error: the offset is after the length if the length is complete, and unchanged if it isn't;
+/// *run is unchanged. To try again with more bytes, assign to the offset what it was before the
+/// call.
 #[inline]
 pub fn octets_get_bytes_with_u8_length(
     bytes: &[u8],
@@ -88,10 +102,7 @@ pub fn octets_get_bytes_with_u8_length(
     tell(answer, *off, run)
 }
 
-/// Reads a length of two bytes, finds as many bytes after it, and moves the offset past both.
-///
-/// If fewer bytes follow, the call fails and leaves the offset after the length. If the length is
-/// incomplete, it fails and changes nothing.
+/// As octets_get_bytes_with_u8_length.
 #[inline]
 pub fn octets_get_bytes_with_u16_length(
     bytes: &[u8],
@@ -106,10 +117,7 @@ pub fn octets_get_bytes_with_u16_length(
     tell(answer, *off, run)
 }
 
-/// Reads a length that is a varint, finds as many bytes after it, and moves the offset past both.
-///
-/// If fewer bytes follow, the call fails and leaves the offset after the varint. If the varint is
-/// incomplete, it fails and changes nothing.
+/// As octets_get_bytes_with_u8_length.
 #[inline]
 pub fn octets_get_bytes_with_varint_length(
     bytes: &[u8],

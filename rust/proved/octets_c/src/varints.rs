@@ -6,9 +6,10 @@ use crate::cursors::at_byte;
 use crate::status::{DONE, OVERLONG, SHORT};
 use octets::{MAX_VAR_INT, VarintError, varint_len};
 
-/// Reads a varint of any width. A value may have a greater width than it needs.
+/// Reads a varint of any width, even if a smaller width could hold its value.
 ///
-/// It fails if there is no complete varint at the offset, and then changes nothing.
+/// Returns OCTETS_SHORT if and only if the buffer ends before the varint does, otherwise
+/// OCTETS_DONE. If at least eight bytes remain, the buffer never ends before the varint.
 #[inline]
 pub fn octets_get_varint(bytes: &[u8], off: &mut usize, value: &mut u64) -> u8 {
     let Ok(mut cursor) = at_byte(bytes, *off) else {
@@ -22,10 +23,10 @@ pub fn octets_get_varint(bytes: &[u8], off: &mut usize, value: &mut u64) -> u8 {
     DONE
 }
 
-/// Reads a varint as `octets_get_varint` does, and fails as overlong if the varint is wider than
-/// its value needs.
+/// Reads a varint, and fails if it is wider than its value needs.
 ///
-/// An incomplete varint is reported first, as short. After an error nothing has changed.
+/// Returns OCTETS_SHORT if and only if the buffer ends before the varint does, OCTETS_OVERLONG if
+/// and only if the varint is complete and wider than its value needs, otherwise OCTETS_DONE.
 #[inline]
 pub fn octets_get_varint_shortest(bytes: &[u8], off: &mut usize, value: &mut u64) -> u8 {
     let Ok(mut cursor) = at_byte(bytes, *off) else {
@@ -42,8 +43,8 @@ pub fn octets_get_varint_shortest(bytes: &[u8], off: &mut usize, value: &mut u64
     }
 }
 
-/// Returns the least width in bytes (1, 2, 4 or 8) in which a varint can have the value `value`, or
-/// 0 if no varint holds it.
+/// Returns the smallest width of a varint that holds value: 1, 2, 4 or 8 bytes; or 0 if value is
+/// above 4611686018427387903 (2^62 - 1).
 #[inline]
 pub fn octets_varint_len(value: u64) -> usize {
     if value > MAX_VAR_INT {

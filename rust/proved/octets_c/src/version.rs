@@ -2,7 +2,9 @@
 //! The version number of the library.
 use rattle_std::{self as std, prelude::*};
 
-/// Returns the version of these calls as one number: 307 is 0.3.7.
+/// Returns the version of the linked library as a number.
+///
+/// Returns OCTETS_VERSION if the linked library has the version of this header.
 #[inline]
 pub fn octets_version() -> u32 {
     307
