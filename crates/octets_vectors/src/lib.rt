@@ -1,7 +1,7 @@
 //! What the cursors and the Huffman code are tested with: laws of several calls, as functions whose
-//! contracts state them; callers with the greatest numbers; sinks; calls as plain data; and a simple
-//! encoder, with which the fast one is compared. Its tests are those of the crate `octets` 0.3.7, by
-//! their names. `octets_vectors_tests` has all others.
+//! contracts state them; callers with the greatest numbers; sinks; calls as plain data; and a
+//! simple encoder, with which the fast one is compared. Its tests are those of the crate `octets`
+//! 0.3.7, by their names. `octets_vectors_tests` has all others.
 #![tactic(auto)]
 
 pub mod calls;

@@ -1,5 +1,5 @@
-//! Calls that lend, each with the bytes that it is expected to lend, and those that are then written
-//! over them.
+//! Calls that lend, each with the bytes that it is expected to lend, and those that are then
+//! written over them.
 
 use super::reads::{Read, answers_mut};
 use octets::{MAX_VAR_INT, OctetsMut};
