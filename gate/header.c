@@ -1,6 +1,7 @@
-/* Checks octets.h: the macros by their values and types, when this is compiled; then the texts of all statuses.
- * c/examples/calls.c tries the calls. Only the first part is compiled for 32 bits, where there is no C library.
- * gate/header writes declared.inc, in which each function that the library has is used and declared once more. */
+/* Checks octets.h: the macros by their values and types, when this is compiled; then the texts of all statuses, the
+ * bounds, and the starts of runs. c/examples/calls.c tries the calls. Only the first part is compiled for 32 bits, where
+ * there is no C library. gate/header writes declared.inc, in which each function that the library has is used and
+ * declared once more. */
 #include "octets.h"
 
 #ifdef __cplusplus
@@ -103,12 +104,58 @@ static void texts(void) {
         strstr(octets_status_text(OCTETS_SHORT), "remain") && strstr(octets_status_text(OCTETS_SHORT), "encoding"));
 }
 
+/* The greatest number and the greatest length, and one more. The six bytes of each literal have its length (RFC 7541,
+ * section 5.1): 127 + 0 + 127 * 128 + 127 * 128^2 + 127 * 128^3 + 15 * 128^4 is 2^32 - 1 if the second byte has a 0. */
+static void bounds(void) {
+    const uint8_t most[] = {0x7f, 0x80, 0xff, 0xff, 0xff, 0x0f}, more[] = {0x7f, 0x81, 0xff, 0xff, 0xff, 0x0f};
+    uint8_t out[8] = {0};
+    size_t off = 0, len = 0;
+    check("the greatest varint", octets_put_varint(out, 8, &off, OCTETS_VARINT_MAX) == OCTETS_DONE);
+    check("one that is greater", octets_put_varint(out, 8, &off, OCTETS_VARINT_MAX + 1) == OCTETS_UNFIT);
+    check("the width of both", octets_varint_len(OCTETS_VARINT_MAX) == 8 && octets_varint_len(OCTETS_VARINT_MAX + 1) == 0);
+    off = 0;
+    check("the greatest length", octets_get_string(most, 6, &off, out, 8, &len) == OCTETS_SHORT);
+    check("one that is greater", octets_get_string(more, 6, &off, out, 8, &len) == OCTETS_LONG);
+    check("both as numbers", OCTETS_LITERAL_MAX == 0xffffffff && OCTETS_LITERAL_MAX + UINT64_C(1) > OCTETS_LITERAL_MAX);
+}
+
+#ifdef __cplusplus
+/* A pointer that counts the additions to it. */
+struct counted {
+    size_t added, additions;
+    counted operator+(size_t more) const { return {added + more, additions + 1}; }
+};
+
+static void additions(void) {
+    const octets_run none = {0, 9}, some = {3, 9};
+    const counted start = {0, 0};
+    check("no addition for a run at the start", OCTETS_RUN_START(start, none).additions == 0);
+    check("one for another", OCTETS_RUN_START(start, some).added == 3);
+}
+#else
+static void additions(void) {}
+#endif
+
+/* Expressions whose operators bind less than those of the macro, as arguments and around it. */
+static void starts(void) {
+    uint8_t bytes[4] = {1, 2, 3, 4}, *none = NULL;
+    const octets_run runs[] = {{0, 4}, {2, 2}}, *at = runs;
+    check("the start of no bytes", OCTETS_RUN_START(none, runs[0]) == NULL);
+    check("its arguments", *OCTETS_RUN_START(at == runs ? bytes : none, *(at + 1)) == 3);
+    check("a start", OCTETS_RUN_START(bytes + 1, *at)[1] == 3 && *OCTETS_RUN_START(bytes, *at) == 1);
+    *OCTETS_RUN_START(bytes, runs[1]) = 9;
+    check("the byte at it", bytes[2] == 9);
+    additions();
+}
+
 int main(void) {
     texts();
     char release[36];
     snprintf(release, sizeof release, "%d.%d.%d", OCTETS_VERSION / 10000, OCTETS_VERSION / 100 % 100, OCTETS_VERSION % 100);
     check("the version", octets_version() == OCTETS_VERSION && strcmp(OCTETS_RELEASE, release) == 0);
     check("a pointer to no bytes", OCTETS_SIZE(2.5) == 2 && OCTETS_NO_BYTES != NULL);
+    bounds();
+    starts();
     printf("%d passed, %d failed\n", passed, failed);
     return failed != 0;
 }

@@ -80,6 +80,7 @@ static void widths(void) {
         CHECK(octets_put_varint(out, width - 1, &off, most) == OCTETS_SHORT && off == 0);
         CHECK(octets_put_varint(out, width, &off, more) == (next ? OCTETS_SHORT : OCTETS_UNFIT));
         CHECK(octets_put_varint_with_len(out, 9, &off, more, width) == OCTETS_UNFIT && off == 0);
+        CHECK(octets_put_varint_with_len(out, width - 1, &off, most, width) == OCTETS_SHORT);
         CHECK(octets_put_varint_with_len(out, 9, &off, most, width) == OCTETS_DONE);
         CHECK(off == width);
     }
@@ -128,6 +129,7 @@ static void runs(void) {
     CHECK(run.from == 5 && run.len == 1 && off == 6);
     CHECK(octets_get_bytes_with_varint_length(bytes, 11, &off, &run) == OCTETS_DONE);
     CHECK(run.from == 8 && run.len == 2 && off == 10);
+    CHECK(octets_get_bytes_with_u16_length(bytes, 11, &off, &run) == OCTETS_SHORT && off == 10);
     CHECK(octets_get_bytes_with_u8_length(bytes, 11, &off, &run) == OCTETS_SHORT);
     CHECK(run.from == 8 && off == 11);
     off = 3;

@@ -97,6 +97,11 @@
  * twice. */
 #define OCTETS_RUN_START(bytes, run) ((run).from == 0 ? (bytes) : (bytes) + (run).from)
 
+/** The greatest number that a varint holds, 2^62 - 1. */
+#define OCTETS_VARINT_MAX UINT64_C(4611686018427387903)
+/** The greatest number of bytes of the value in a string literal, 2^32 - 1. */
+#define OCTETS_LITERAL_MAX UINT32_C(4294967295)
+
 /* The next three macros compute buffer sizes that always suffice. It is proved that the sizes suffice, and tested
  * that the macros compute them. They are of type size_t, may evaluate n more than once, and are valid for each n
  * for which 4 * n doesn't overflow size_t. */
@@ -153,12 +158,12 @@ enum
     OCTETS_SHORT = 1,
     /** octets_get_varint_shortest: the varint is wider than its value needs. */
     OCTETS_OVERLONG = 2,
-    /** octets_put_varint, octets_put_varint_with_len: the number is above 2^62 - 1, or is too large for the
+    /** octets_put_varint, octets_put_varint_with_len: the number is above OCTETS_VARINT_MAX, or is too large for the
      * width, or no varint has that width. octets_next_piece: the octets_place isn't a valid state. */
     OCTETS_UNFIT = 3,
-    /** octets_get_string: the length is encoded in more than six bytes, or is greater than 4294967295.
-     * octets_put_string: the value has more than 4294967295 bytes. octets_huffman_text_len: size_t can't hold
-     * the length of the encoding. */
+    /** octets_get_string: the length is encoded in more than six bytes, or is greater than OCTETS_LITERAL_MAX.
+     * octets_put_string: the value has more than OCTETS_LITERAL_MAX bytes. octets_huffman_text_len: size_t can't
+     * hold the length of the encoding. */
     OCTETS_LONG = 4,
     /** The bytes aren't a valid Huffman encoding. HTTP/2 treats this as a connection error of type
      * COMPRESSION_ERROR, and HTTP/3 as one of type QPACK_DECOMPRESSION_FAILED, or on QPACK's encoder stream of
