@@ -187,8 +187,13 @@ pub fn put_string<const LOWER_CASE: bool, W: OctetsWriter>(sink: &mut W, v: &[u8
 
 /// Returns `v` if it has at most [`MAX_LITERAL_LEN`] bytes, and panics otherwise.
 fn literal_value(v: &[u8]) -> &[u8] {
-    assert!(v.len() <= MAX_LITERAL_LEN, "value is too long for a string literal");
+    assert!(is_literal_len(v.len()), "value is too long for a string literal");
     v
+}
+
+/// Whether the value of a string literal may have so many bytes.
+fn is_literal_len(len: usize) -> bool {
+    len <= MAX_LITERAL_LEN
 }
 
 /// A vector appends all bytes. If the allocation fails, it returns an error and is unchanged.
@@ -200,5 +205,18 @@ impl OctetsWriter for Vec<u8> {
         self.try_reserve(v.len()).map_err(|_| AllocError)?;
         self.extend_from_slice(v);
         Ok(())
+    }
+}
+
+#[cfg(test)]
+mod tests {
+    use super::is_literal_len;
+
+    #[test]
+    fn the_longest_value_of_a_literal_has_a_length_of_32_bits() {
+        assert!(is_literal_len(0));
+        assert!(is_literal_len(4_294_967_295));
+        #[cfg(target_pointer_width = "64")]
+        assert!(!is_literal_len(4_294_967_296));
     }
 }
