@@ -4,7 +4,7 @@ ghost use Rattle.std.specs.Prelude.{◌≡◌, ◌-◌, ◌*◌, ◌<◌, ◌≤
 /// Overwrites the first `N` bytes. `copy_from_slice` would be a call if the program is built with
 /// `lto = "off"`; an array is copied without one.
 #[inline(always)]
-fn put_first<const N: usize>(to: &mut [u8], bytes: &[u8; N])
+pub(crate) fn put_first<const N: usize>(to: &mut [u8], bytes: &[u8; N])
     requires { N ≤ length to.old }
     ensures { to.new ≡ bytes.now ++ drop N to.old }
 {

@@ -38,6 +38,7 @@ impl<B: Bytes> Cursor<B> {
     /// let mut cursor = Cursor::with_buffer(&mut bytes[..]);
     /// assert_eq!(cursor.get_u16()?, 0x0102);
     /// ```
+    #[inline(always)]
     pub fn with_buffer(buf: B) -> Self
         ensures bytes { bytes result ≡ B.bytes buf }
         ensures start { position result ≡ 0 }
@@ -54,6 +55,7 @@ impl<B: Bytes> Cursor<B> {
     /// cursor.write_u8(9)?;
     /// assert_eq!(&*cursor.into_buffer(), [9, 2, 3].as_slice());
     /// ```
+    #[inline(always)]
     pub fn into_buffer(self) -> B
         ensures bytes { B.bytes result ≡ bytes self }
         ensures holder { B.holding result [] ≡ holder self }
@@ -70,6 +72,7 @@ impl<B: Bytes> Cursor<B> {
     /// cursor.skip(2)?;
     /// assert_eq!(cursor.cap(), 1);
     /// ```
+    #[inline(always)]
     pub fn cap(&self) -> usize
         ensures remaining { result ≡ length (rest self.now) }
 
@@ -87,6 +90,7 @@ impl<B: Bytes> Cursor<B> {
     /// cursor.skip(2)?;
     /// assert_eq!(cursor.len(), 3);
     /// ```
+    #[inline(always)]
     pub fn len(&self) -> usize
         ensures length { result ≡ length (bytes self.now) }
         ensures small { length (bytes self.now) < 2 ^ 63 }
@@ -102,6 +106,7 @@ impl<B: Bytes> Cursor<B> {
     /// cursor.skip(1)?;
     /// assert!(!cursor.is_empty());
     /// ```
+    #[inline(always)]
     pub fn is_empty(&self) -> bool
         ensures { IsTrue result ↔ (bytes self.now ≡ []) }
     {
@@ -116,6 +121,7 @@ impl<B: Bytes> Cursor<B> {
     /// cursor.skip(2)?;
     /// assert_eq!(cursor.off(), 2);
     /// ```
+    #[inline(always)]
     pub fn off(&self) -> usize
         ensures { result ≡ position self.now }
     {
@@ -129,6 +135,7 @@ impl<B: Bytes> Cursor<B> {
     /// cursor.skip(2)?;
     /// assert_eq!(cursor.as_ref(), [3].as_slice());
     /// ```
+    #[inline(always)]
     pub fn as_ref(&self) -> &[u8]
         ensures { result.now ≡ rest self.now }
     {
@@ -143,6 +150,7 @@ impl<B: Bytes> Cursor<B> {
     /// cursor.skip(1)?;
     /// assert_eq!(&*cursor.to_vec(alloc)?, [2, 3].as_slice());
     /// ```
+    #[inline(always)]
     pub fn to_vec(&self, alloc: Global) -> Result<Vec<u8>, AllocError>
         ensures bytes { IfOk result (λ v. v.items ≡ rest self.now) }
         ensures empty { rest self.now ≡ [] → IsOk result }
@@ -168,6 +176,7 @@ impl<B: Bytes> PartialEq for Cursor<B> {
     /// let cursor = Octets::with_slice(&[1, 2, 3]);
     /// assert_eq!(cursor, Octets::with_slice(&[1, 2, 3]));
     /// ```
+    #[inline(always)]
     fn eq(&self, other: &Self) -> bool
         ensures { IsTrue result
             ↔ ((bytes self.now ≡ bytes other.now) × (position self.now ≡ position other.now)) }

@@ -23,6 +23,7 @@ fn chunk<const N: usize>(bytes: &[u8], from: usize) -> Result<&[u8; N]>
 }
 
 /// Returns the byte at the position `from`.
+#[inline(always)]
 #[tactic(auto, unfolding(crate::specs::Bytes::network))]
 pub(crate) fn read_u8(bytes: &[u8], from: usize) -> Result<u8>
     requires { from ≤ length bytes.now }
@@ -35,6 +36,7 @@ pub(crate) fn read_u8(bytes: &[u8], from: usize) -> Result<u8>
 }
 
 /// Returns the two bytes from the position `from` on as a big-endian number.
+#[inline(always)]
 #[tactic(auto, unfolding(crate::specs::Bytes::network))]
 pub(crate) fn read_u16(bytes: &[u8], from: usize) -> Result<u16>
     requires { from ≤ length bytes.now }
@@ -46,6 +48,7 @@ pub(crate) fn read_u16(bytes: &[u8], from: usize) -> Result<u16>
 }
 
 /// Returns the three bytes from the position `from` on as a big-endian number.
+#[inline(always)]
 #[tactic(auto, unfolding(crate::specs::Bytes::network))]
 pub(crate) fn read_u24(bytes: &[u8], from: usize) -> Result<u32>
     requires { from ≤ length bytes.now }
@@ -59,6 +62,7 @@ pub(crate) fn read_u24(bytes: &[u8], from: usize) -> Result<u32>
 }
 
 /// Returns the four bytes from the position `from` on as a big-endian number.
+#[inline(always)]
 #[tactic(auto, unfolding(crate::specs::Bytes::network))]
 pub(crate) fn read_u32(bytes: &[u8], from: usize) -> Result<u32>
     requires { from ≤ length bytes.now }
@@ -70,6 +74,7 @@ pub(crate) fn read_u32(bytes: &[u8], from: usize) -> Result<u32>
 }
 
 /// Returns the eight bytes from the position `from` on as a big-endian number.
+#[inline(always)]
 #[tactic(auto, unfolding(crate::specs::Bytes::network))]
 pub(crate) fn read_u64(bytes: &[u8], from: usize) -> Result<u64>
     requires { from ≤ length bytes.now }

@@ -9,6 +9,7 @@ impl<B: Bytes> Cursor<B> {
     ghost use Rattle.octets.specs.Cursor.{position, rest, passed, Passes, IsUnchanged};
 
     /// Moves the offset forward by `len` bytes, which must remain.
+    #[inline(always)]
     pub(crate) fn advance(&mut self, len: usize)
         requires { len ≤ length (rest self.old) }
         ensures { Passes self.old self.new len }
@@ -20,6 +21,7 @@ impl<B: Bytes> Cursor<B> {
 
     /// Moves the offset past a varint of `width` bytes, which must remain. Each width has a case of
     /// its own, so that the compiler adds a constant.
+    #[inline(always)]
     pub(crate) fn advance_by_width(&mut self, width: usize)
         requires { width ≤ length (rest self.old) }
         ensures { Passes self.old self.new width }
@@ -43,6 +45,7 @@ impl<B: Bytes> Cursor<B> {
     /// assert_eq!(cursor.off(), 1);
     /// assert_eq!(cursor.rewind(2), Err(BufferTooShortError));
     /// ```
+    #[inline(always)]
     pub fn rewind(&mut self, len: usize) -> Result<()>
         ensures fits { IsOk result ↔ (len ≤ position self.old) }
         ensures goes_back { OnOk result (Passes self.new self.old len) }
@@ -72,6 +75,7 @@ impl<B: Bytes> Cursor<B> {
     /// assert_eq!(cursor.off(), 2);
     /// assert_eq!(cursor.skip(2), Err(BufferTooShortError));
     /// ```
+    #[inline(always)]
     #[tactic(auto, using(crate::proofs::CallerLemmas::passes_passed))]
     pub fn skip(&mut self, skip: usize) -> Result<()>
         ensures fits { IsOk result ↔ (skip ≤ length (rest self.old)) }

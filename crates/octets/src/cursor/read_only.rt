@@ -22,6 +22,7 @@ impl<'a> Octets<'a> {
     /// assert_eq!(cursor.off(), 0);
     /// assert_eq!(cursor.cap(), 3);
     /// ```
+    #[inline(always)]
     pub fn with_slice(buf: &'a [u8]) -> Self
         ensures bytes { bytes result ≡ buf.now }
         ensures start { position result ≡ 0 }
@@ -36,6 +37,7 @@ impl<'a> Octets<'a> {
     /// cursor.skip(2)?;
     /// assert_eq!(cursor.buf(), [1, 2, 3].as_slice());
     /// ```
+    #[inline(always)]
     pub fn buf(&self) -> &'a [u8]
         ensures is { result.now ≡ bytes self.now }
 
@@ -46,6 +48,7 @@ impl<'a> Octets<'a> {
     }
 
     /// Returns the bytes from the offset on, with the lifetime of the buffer.
+    #[inline(always)]
     pub(crate) fn unread(&self) -> &'a [u8]
         ensures { result.now ≡ rest self.now }
     {
@@ -57,6 +60,7 @@ impl<'a> Octets<'a> {
 impl fmt::Debug for Octets<'_> {
     /// Formats the cursor like a struct `Octets` with the fields `buf`, which is the whole buffer,
     /// and `off`.
+    #[inline(always)]
     fn fmt<W: fmt::Write>(&self, f: &mut fmt::Formatter<W>) -> fmt::Result {
         f.debug_struct("Octets")
             .field("buf", &self.buf)

@@ -26,6 +26,7 @@ impl<B: Bytes> Cursor<B> {
     /// assert_eq!(cursor.get_u8()?, 7);
     /// assert_eq!(cursor.off(), 1);
     /// ```
+    #[inline(always)]
     #[tactic(auto, unfolding(crate::specs::Cursor::Reads))]
     pub fn get_u8(&mut self) -> Result<u8>
         ensures fits { IsOk result ↔ (1 ≤ length (rest self.old)) }
@@ -49,6 +50,7 @@ impl<B: Bytes> Cursor<B> {
     /// assert_eq!(cursor.get_u16(), Err(BufferTooShortError));
     /// assert_eq!(cursor.off(), 2);
     /// ```
+    #[inline(always)]
     #[tactic(auto, unfolding(crate::specs::Cursor::Reads))]
     pub fn get_u16(&mut self) -> Result<u16>
         ensures fits { IsOk result ↔ (2 ≤ length (rest self.old)) }
@@ -70,6 +72,7 @@ impl<B: Bytes> Cursor<B> {
     /// let mut cursor = Octets::with_slice(&[1, 2, 3]);
     /// assert_eq!(cursor.get_u24()?, 0x010203);
     /// ```
+    #[inline(always)]
     #[tactic(auto, unfolding(crate::specs::Cursor::Reads))]
     pub fn get_u24(&mut self) -> Result<u32>
         ensures fits { IsOk result ↔ (3 ≤ length (rest self.old)) }
@@ -95,6 +98,7 @@ impl<B: Bytes> Cursor<B> {
     /// let mut cursor = Octets::with_slice(&[1, 2, 3, 4]);
     /// assert_eq!(cursor.get_u32()?, 0x01020304);
     /// ```
+    #[inline(always)]
     #[tactic(auto, unfolding(crate::specs::Cursor::Reads))]
     pub fn get_u32(&mut self) -> Result<u32>
         ensures fits { IsOk result ↔ (4 ≤ length (rest self.old)) }
@@ -116,6 +120,7 @@ impl<B: Bytes> Cursor<B> {
     /// let mut cursor = Octets::with_slice(&[0, 0, 0, 0, 1, 2, 3, 4]);
     /// assert_eq!(cursor.get_u64()?, 0x01020304);
     /// ```
+    #[inline(always)]
     #[tactic(auto, unfolding(crate::specs::Cursor::Reads))]
     pub fn get_u64(&mut self) -> Result<u64>
         ensures fits { IsOk result ↔ (8 ≤ length (rest self.old)) }
@@ -138,6 +143,7 @@ impl<B: Bytes> Cursor<B> {
     /// assert_eq!(cursor.peek_u8()?, 7);
     /// assert_eq!(cursor.off(), 0);
     /// ```
+    #[inline(always)]
     pub fn peek_u8(&mut self) -> Result<u8>
         ensures fits { IsOk result ↔ (1 ≤ length (rest self.old)) }
         ensures value { IfOk result (λ n. n ≡ number (take 1 (rest self.old))) }
@@ -156,6 +162,7 @@ impl<B: Bytes> Cursor<B> {
     /// assert_eq!(cursor.get_varint()?, 37);
     /// assert_eq!(cursor.off(), 2);
     /// ```
+    #[inline(always)]
     #[tactic(auto, using(crate::proofs::Cursors::varints))]
     pub fn get_varint(&mut self) -> Result<u64>
         ensures fits { IsOk result ↔ HoldsVarint (rest self.old) }
@@ -192,6 +199,7 @@ impl<B: Bytes> Cursor<B> {
     /// assert_eq!(cursor.get_varint_shortest(), Err(VarintError::Overlong));
     /// assert_eq!(cursor.off(), 1);
     /// ```
+    #[inline(always)]
     #[tactic(auto, using(crate::proofs::Cursors::varints))]
     pub fn get_varint_shortest(&mut self) -> std::result::Result<u64, VarintError>
         ensures value { IfOk result (λ n. BeginsVarint (rest self.old) (shortest n) n

@@ -9,7 +9,7 @@ use rattle_std::{self as std, prelude::*};
 ///
 /// - `N ≤ length to.old`
 #[inline(always)]
-fn put_first<const N: usize>(to: &mut [u8], bytes: &[u8; N]) {
+pub(crate) fn put_first<const N: usize>(to: &mut [u8], bytes: &[u8; N]) {
     if let Some(first) = to.first_chunk_mut::<N>() {
         *first = *bytes;
     }

@@ -41,7 +41,7 @@ impl<B: Bytes> Cursor<B> {
     /// assert_eq!(cursor.get_u16()?, 0x0102);
     /// # Ok::<(), Box<dyn core::error::Error>>(())
     /// ```
-    #[inline]
+    #[inline(always)]
     pub fn with_buffer(buf: B) -> Self {
         Self { buf, off: 0 }
     }
@@ -56,7 +56,7 @@ impl<B: Bytes> Cursor<B> {
     /// assert_eq!(&*cursor.into_buffer(), [9, 2, 3]);
     /// # Ok::<(), Box<dyn core::error::Error>>(())
     /// ```
-    #[inline]
+    #[inline(always)]
     pub fn into_buffer(self) -> B {
         let Cursor { off: _, buf } = self;
         buf
@@ -71,7 +71,7 @@ impl<B: Bytes> Cursor<B> {
     /// assert_eq!(cursor.cap(), 1);
     /// # Ok::<(), Box<dyn core::error::Error>>(())
     /// ```
-    #[inline]
+    #[inline(always)]
     pub fn cap(&self) -> usize {
         self.buf.len() - self.off
     }
@@ -85,7 +85,7 @@ impl<B: Bytes> Cursor<B> {
     /// assert_eq!(cursor.len(), 3);
     /// # Ok::<(), Box<dyn core::error::Error>>(())
     /// ```
-    #[inline]
+    #[inline(always)]
     pub fn len(&self) -> usize {
         self.buf.len()
     }
@@ -100,7 +100,7 @@ impl<B: Bytes> Cursor<B> {
     /// assert!(!cursor.is_empty());
     /// # Ok::<(), Box<dyn core::error::Error>>(())
     /// ```
-    #[inline]
+    #[inline(always)]
     pub fn is_empty(&self) -> bool {
         self.buf.as_slice().is_empty()
     }
@@ -115,7 +115,7 @@ impl<B: Bytes> Cursor<B> {
     /// assert_eq!(cursor.off(), 2);
     /// # Ok::<(), Box<dyn core::error::Error>>(())
     /// ```
-    #[inline]
+    #[inline(always)]
     pub fn off(&self) -> usize {
         self.off
     }
@@ -129,7 +129,7 @@ impl<B: Bytes> Cursor<B> {
     /// assert_eq!(cursor.as_ref(), [3]);
     /// # Ok::<(), Box<dyn core::error::Error>>(())
     /// ```
-    #[inline]
+    #[inline(always)]
     pub fn as_ref(&self) -> &[u8] {
         &self.buf.as_slice()[self.off..]
     }
@@ -145,7 +145,7 @@ impl<B: Bytes> Cursor<B> {
     /// assert_eq!(&*cursor.to_vec(alloc)?, [2, 3]);
     /// # Ok::<(), Box<dyn core::error::Error>>(())
     /// ```
-    #[inline]
+    #[inline(always)]
     pub fn to_vec(&self, alloc: Global) -> Result<Vec<u8>, AllocError> {
         vec_of(alloc, self.as_ref())
     }
@@ -165,7 +165,7 @@ impl<B: Bytes> PartialEq for Cursor<B> {
     /// let cursor = Octets::with_slice(&[1, 2, 3]);
     /// assert_eq!(cursor, Octets::with_slice(&[1, 2, 3]));
     /// ```
-    #[inline]
+    #[inline(always)]
     fn eq(&self, other: &Self) -> bool {
         self.off == other.off && self.buf.as_slice() == other.buf.as_slice()
     }

@@ -27,7 +27,7 @@ fn chunk<const N: usize>(bytes: &[u8], from: usize) -> Result<&[u8; N]> {
 /// # Requires
 ///
 /// - `from ≤ length bytes.now`
-#[inline]
+#[inline(always)]
 pub(crate) fn read_u8(bytes: &[u8], from: usize) -> Result<u8> {
     let [a] = *chunk::<1>(bytes, from)?;
     Ok(a)
@@ -38,7 +38,7 @@ pub(crate) fn read_u8(bytes: &[u8], from: usize) -> Result<u8> {
 /// # Requires
 ///
 /// - `from ≤ length bytes.now`
-#[inline]
+#[inline(always)]
 pub(crate) fn read_u16(bytes: &[u8], from: usize) -> Result<u16> {
     Ok(u16::from_be_bytes(*chunk(bytes, from)?))
 }
@@ -48,7 +48,7 @@ pub(crate) fn read_u16(bytes: &[u8], from: usize) -> Result<u16> {
 /// # Requires
 ///
 /// - `from ≤ length bytes.now`
-#[inline]
+#[inline(always)]
 pub(crate) fn read_u24(bytes: &[u8], from: usize) -> Result<u32> {
     let [a, b, c] = *chunk::<3>(bytes, from)?;
     Ok(u32::from_be_bytes([0, a, b, c]))
@@ -59,7 +59,7 @@ pub(crate) fn read_u24(bytes: &[u8], from: usize) -> Result<u32> {
 /// # Requires
 ///
 /// - `from ≤ length bytes.now`
-#[inline]
+#[inline(always)]
 pub(crate) fn read_u32(bytes: &[u8], from: usize) -> Result<u32> {
     Ok(u32::from_be_bytes(*chunk(bytes, from)?))
 }
@@ -69,7 +69,7 @@ pub(crate) fn read_u32(bytes: &[u8], from: usize) -> Result<u32> {
 /// # Requires
 ///
 /// - `from ≤ length bytes.now`
-#[inline]
+#[inline(always)]
 pub(crate) fn read_u64(bytes: &[u8], from: usize) -> Result<u64> {
     Ok(u64::from_be_bytes(*chunk(bytes, from)?))
 }

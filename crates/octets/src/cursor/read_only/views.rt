@@ -23,6 +23,7 @@ impl<'a> Octets<'a> {
     /// assert_eq!(cursor.off(), 2);
     /// assert_eq!(cursor.get_bytes(2), Err(BufferTooShortError));
     /// ```
+    #[inline(always)]
     #[tactic(auto, unfolding(crate::specs::Cursor::Reads))]
     pub fn get_bytes(&mut self, len: usize) -> Result<Octets<'a>>
         ensures fits { IsOk result ↔ (len ≤ length (rest self.old)) }
@@ -46,6 +47,7 @@ impl<'a> Octets<'a> {
     /// assert_eq!(view.get_u16()?, 0x0102);
     /// assert_eq!(cursor.off(), 0);
     /// ```
+    #[inline(always)]
     pub fn peek_bytes(&self, len: usize) -> Result<Octets<'a>>
         ensures fits { IsOk result ↔ (len ≤ length (rest self.now)) }
         ensures view { IfOk result (IsViewOf (take len (rest self.now))) }
@@ -62,6 +64,7 @@ impl<'a> Octets<'a> {
     /// assert_eq!(cursor.slice(2)?, [1, 2].as_slice());
     /// assert_eq!(cursor.off(), 0);
     /// ```
+    #[inline(always)]
     pub fn slice(&self, len: usize) -> Result<&'a [u8]>
         ensures fits { IsOk result ↔ (len ≤ length (rest self.now)) }
         ensures shows { IfOk result (λ s. s.now ≡ take len (rest self.now)) }
@@ -81,6 +84,7 @@ impl<'a> Octets<'a> {
     /// let cursor = Octets::with_slice(&[1, 2, 3]);
     /// assert_eq!(cursor.slice_last(2)?, [2, 3].as_slice());
     /// ```
+    #[inline(always)]
     pub fn slice_last(&self, len: usize) -> Result<&'a [u8]>
         ensures fits { IsOk result ↔ (len ≤ length (rest self.now)) }
         ensures shows { IfOk result
@@ -105,6 +109,7 @@ impl<'a> Octets<'a> {
     /// assert_eq!(run.buf(), b"ab".as_slice());
     /// assert_eq!(cursor.off(), 3);
     /// ```
+    #[inline(always)]
     #[tactic(auto, using(crate::proofs::Cursors::runs))]
     pub fn get_bytes_with_u8_length(&mut self) -> Result<Octets<'a>>
         ensures fits { IsOk result
@@ -138,6 +143,7 @@ impl<'a> Octets<'a> {
     /// assert_eq!(run.buf(), b"ab".as_slice());
     /// assert_eq!(cursor.off(), 4);
     /// ```
+    #[inline(always)]
     #[tactic(auto, using(crate::proofs::Cursors::runs))]
     pub fn get_bytes_with_u16_length(&mut self) -> Result<Octets<'a>>
         ensures fits { IsOk result
@@ -171,6 +177,7 @@ impl<'a> Octets<'a> {
     /// assert_eq!(run.buf(), b"ab".as_slice());
     /// assert_eq!(cursor.off(), 4);
     /// ```
+    #[inline(always)]
     pub fn get_bytes_with_varint_length(&mut self) -> Result<Octets<'a>>
         ensures fits { IsOk result ↔ HoldsPrefixed (rest self.old) }
         ensures reads { IfOk result (ReadsPrefixed self.old self.new) }

@@ -19,6 +19,7 @@ use crate::cursor::writable::loans::parts::Part;
 use crate::error::{BufferTooShortError, Result};
 
 /// Returns a cursor over the slice, at its start, if there is a slice.
+#[inline(always)]
 fn view_of(lent: Result<&mut [u8]>) -> Result<OctetsMut<'_>>
     ensures { Viewed lent.entry result }
 {
@@ -29,6 +30,7 @@ fn view_of(lent: Result<&mut [u8]>) -> Result<OctetsMut<'_>>
 }
 
 /// Splits the bytes at position `off`, if there are at least `off` bytes.
+#[inline(always)]
 fn halves(whole: &mut [u8], off: usize) -> Option<(&mut [u8], &mut [u8])>
     ensures* writes_back { sem 𝓛 (LendsBothIf (Array byte 0) (Array byte 0) (Array byte 0)
         whole.entry result ◌++◌ whole.old) }
@@ -40,6 +42,7 @@ fn halves(whole: &mut [u8], off: usize) -> Option<(&mut [u8], &mut [u8])>
 }
 
 /// Returns a cursor over each of the two slices, at its start, if there are two slices.
+#[inline(always)]
 fn views_of<'b>(
     halves: Option<(&'b mut [u8], &'b mut [u8])>,
 ) -> Result<(OctetsMut<'b>, OctetsMut<'b>)>
@@ -57,6 +60,7 @@ impl<'a> OctetsMut<'a> {
     ghost use Rattle.octets.specs.Parts.{IsWithin, from_of, the_part};
 
     /// Lends the range, if there is one, and leaves the offset where it is.
+    #[inline(always)]
     fn lend_part(&mut self, part: Result<Part>) -> Result<&mut [u8]>
         requires { IfOk part (λ p. IsWithin p (bytes self.old)) }
         ensures* writes_back { sem 𝓛 (LendsBytes self.entry (bytes self.old)
@@ -72,6 +76,7 @@ impl<'a> OctetsMut<'a> {
     }
 
     /// Lends the range as a cursor, if there is one, and leaves the offset where it is.
+    #[inline(always)]
     fn lend_view(&mut self, part: Result<Part>) -> Result<OctetsMut<'_>>
         requires { IfOk part (λ p. IsWithin p (bytes self.old)) }
         ensures* writes_back { sem 𝓛 (LendsView self.entry (bytes self.old)
@@ -93,6 +98,7 @@ impl<'a> OctetsMut<'a> {
     /// cursor.slice(2)?[0] = 9;
     /// assert_eq!(cursor.get_u8()?, 9);
     /// ```
+    #[inline(always)]
     pub fn slice(&mut self, len: usize) -> Result<&mut [u8]>
         ensures* writes_back { sem 𝓛 (LendsBytes self.entry (bytes self.old)
             (position self.old) (position self.old) result) }
@@ -114,6 +120,7 @@ impl<'a> OctetsMut<'a> {
     /// cursor.slice_last(1)?[0] = 9;
     /// assert_eq!(cursor.buf(), [1, 2, 9].as_slice());
     /// ```
+    #[inline(always)]
     pub fn slice_last(&mut self, len: usize) -> Result<&mut [u8]>
         ensures* writes_back { sem 𝓛 (LendsBytes self.entry (bytes self.old)
             (length (bytes self.old) - len) (position self.old) result) }
@@ -137,6 +144,7 @@ impl<'a> OctetsMut<'a> {
     /// assert_eq!(cursor.buf(), [1, 2, 0].as_slice());
     /// assert_eq!(cursor.off(), 2);
     /// ```
+    #[inline(always)]
     pub fn get_bytes_mut(&mut self, len: usize) -> Result<OctetsMut<'_>>
         ensures* writes_back { sem 𝓛 (LendsView self.entry (bytes self.old)
             (position self.old) (position self.old + len) result) }
@@ -158,6 +166,7 @@ impl<'a> OctetsMut<'a> {
     /// cursor.peek_bytes_mut(2)?.put_u16(0x0102)?;
     /// assert_eq!(cursor.get_u16()?, 0x0102);
     /// ```
+    #[inline(always)]
     pub fn peek_bytes_mut(&mut self, len: usize) -> Result<OctetsMut<'_>>
         ensures* writes_back { sem 𝓛 (LendsView self.entry (bytes self.old)
             (position self.old) (position self.old) result) }
@@ -181,6 +190,7 @@ impl<'a> OctetsMut<'a> {
     /// assert_eq!(left.buf(), [1].as_slice());
     /// assert_eq!(right.buf(), [2, 3].as_slice());
     /// ```
+    #[inline(always)]
     pub fn split_at(&mut self, off: usize) -> Result<(OctetsMut<'_>, OctetsMut<'_>)>
         ensures* writes_back { sem 𝓛 (LendsHalves self.entry result) }
         ensures fits { IsOk result ↔ (off ≤ length (bytes self.old)) }
@@ -204,6 +214,7 @@ impl<'a> OctetsMut<'a> {
     /// cursor.put_u8(7)?;
     /// assert_eq!(cursor.buf(), [7, 0].as_slice());
     /// ```
+    #[inline(always)]
     pub fn put_u8(&mut self, v: u8) -> Result<&mut [u8]>
         ensures* writes_back { sem 𝓛 (LendsPut self.entry (network 1 v) 1 result) }
         ensures fits { IsOk result ↔ (1 ≤ length (rest self.old)) }
@@ -226,6 +237,7 @@ impl<'a> OctetsMut<'a> {
     /// cursor.put_u16(0x0102)?[1] = 9;
     /// assert_eq!(cursor.buf(), [1, 9, 0].as_slice());
     /// ```
+    #[inline(always)]
     pub fn put_u16(&mut self, v: u16) -> Result<&mut [u8]>
         ensures* writes_back { sem 𝓛 (LendsPut self.entry (network 2 v) 2 result) }
         ensures fits { IsOk result ↔ (2 ≤ length (rest self.old)) }
@@ -248,6 +260,7 @@ impl<'a> OctetsMut<'a> {
     /// cursor.put_u24(0x09010203)?;
     /// assert_eq!(cursor.buf(), [1, 2, 3].as_slice());
     /// ```
+    #[inline(always)]
     pub fn put_u24(&mut self, v: u32) -> Result<&mut [u8]>
         ensures* writes_back { sem 𝓛 (LendsPut self.entry (network 3 v) 3 result) }
         ensures fits { IsOk result ↔ (3 ≤ length (rest self.old)) }
@@ -270,6 +283,7 @@ impl<'a> OctetsMut<'a> {
     /// cursor.put_u32(0x01020304)?;
     /// assert_eq!(cursor.buf(), [1, 2, 3, 4].as_slice());
     /// ```
+    #[inline(always)]
     pub fn put_u32(&mut self, v: u32) -> Result<&mut [u8]>
         ensures* writes_back { sem 𝓛 (LendsPut self.entry (network 4 v) 4 result) }
         ensures fits { IsOk result ↔ (4 ≤ length (rest self.old)) }
@@ -292,6 +306,7 @@ impl<'a> OctetsMut<'a> {
     /// cursor.put_u64(0x0102)?;
     /// assert_eq!(cursor.buf(), [0, 0, 0, 0, 0, 0, 1, 2].as_slice());
     /// ```
+    #[inline(always)]
     pub fn put_u64(&mut self, v: u64) -> Result<&mut [u8]>
         ensures* writes_back { sem 𝓛 (LendsPut self.entry (network 8 v) 8 result) }
         ensures fits { IsOk result ↔ (8 ≤ length (rest self.old)) }
@@ -313,6 +328,7 @@ impl<'a> OctetsMut<'a> {
     /// assert_eq!(cursor.put_varint(15293)?.len(), 2);
     /// assert_eq!(cursor.buf(), [0x7b, 0xbd, 0].as_slice());
     /// ```
+    #[inline(always)]
     pub fn put_varint(&mut self, v: u64) -> Result<&mut [u8]>
         requires { v < 2 ^ 62 }
         ensures* writes_back { sem 𝓛
@@ -337,6 +353,7 @@ impl<'a> OctetsMut<'a> {
     /// cursor.put_varint_with_len(37, 2)?;
     /// assert_eq!(cursor.buf(), [0x40, 0x25, 0].as_slice());
     /// ```
+    #[inline(always)]
     pub fn put_varint_with_len(&mut self, v: u64, len: usize) -> Result<&mut [u8]>
         requires width { IsWidth len }
         requires held { v < 2 ^ (8 * len - 2) }
@@ -358,6 +375,7 @@ impl<'a> OctetsMut<'a> {
     /// cursor.put_marked(0x123456, 2)?;
     /// assert_eq!(cursor.buf(), [0x74, 0x56, 0].as_slice());
     /// ```
+    #[inline(always)]
     pub fn put_marked(&mut self, v: u64, len: usize) -> Result<&mut [u8]>
         requires { IsWidth len }
         ensures* writes_back { sem 𝓛 (LendsPut self.entry (network len (marked len v)) len result) }

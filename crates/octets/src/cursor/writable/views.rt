@@ -26,6 +26,7 @@ impl<B: Buffer> Cursor<B> {
     /// assert_eq!(view.get_u16()?, 0x0102);
     /// assert_eq!(cursor.off(), 0);
     /// ```
+    #[inline(always)]
     pub fn peek_bytes(&mut self, len: usize) -> Result<Octets<'_>>
         ensures* leaves { sem 𝓛 (EndsUnchanged B.row B.Bytes self.entry) }
         ensures fits { IsOk result ↔ (len ≤ length (rest self.old)) }
@@ -49,6 +50,7 @@ impl<B: Buffer> Cursor<B> {
     /// assert_eq!(cursor.off(), 2);
     /// assert_eq!(cursor.get_bytes(2), Err(BufferTooShortError));
     /// ```
+    #[inline(always)]
     pub fn get_bytes(&mut self, len: usize) -> Result<Octets<'_>>
         ensures* leaves { sem 𝓛 (EndsPast B.row B.Bytes self.entry result len) }
         ensures fits { IsOk result ↔ (len ≤ length (rest self.old)) }
@@ -75,6 +77,7 @@ impl<B: Buffer> Cursor<B> {
     /// assert_eq!(run.buf(), b"ab".as_slice());
     /// assert_eq!(cursor.off(), 3);
     /// ```
+    #[inline(always)]
     pub fn get_bytes_with_u8_length(&mut self) -> Result<Octets<'_>>
         ensures* leaves { sem 𝓛 (EndsPastPrefix B.row B.Bytes self.entry result 1) }
         ensures fits { IsOk result
@@ -99,6 +102,7 @@ impl<B: Buffer> Cursor<B> {
     /// assert_eq!(run.buf(), b"ab".as_slice());
     /// assert_eq!(cursor.off(), 4);
     /// ```
+    #[inline(always)]
     pub fn get_bytes_with_u16_length(&mut self) -> Result<Octets<'_>>
         ensures* leaves { sem 𝓛 (EndsPastPrefix B.row B.Bytes self.entry result 2) }
         ensures fits { IsOk result
@@ -123,6 +127,7 @@ impl<B: Buffer> Cursor<B> {
     /// assert_eq!(run.buf(), b"ab".as_slice());
     /// assert_eq!(cursor.off(), 4);
     /// ```
+    #[inline(always)]
     pub fn get_bytes_with_varint_length(&mut self) -> Result<Octets<'_>>
         ensures* leaves { sem 𝓛 (EndsPastVarint B.row B.Bytes self.entry result) }
         ensures fits { IsOk result ↔ HoldsPrefixed (rest self.old) }

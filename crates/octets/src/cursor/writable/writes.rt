@@ -5,7 +5,7 @@ ghost use Rattle.octets.specs.Bytes.{network, splice};
 ghost use Rattle.octets.specs.Varints.{IsWidth, shortest, varint};
 ghost use Rattle.octets.specs.Marked.{marked};
 
-use crate::copies::copy;
+use crate::copies::{copy, put_first};
 use crate::cursor::Cursor;
 use crate::cursor::buffer::Buffer;
 use crate::error::{BufferTooShortError, Result};
@@ -66,6 +66,26 @@ impl<B: Buffer> Cursor<B> {
         self.off = from + v.len();
     }
 
+    /// Writes all bytes of the array, and moves the offset past them. rustc copies an array without
+    /// a call, also where it optimizes for size or not at all.
+    #[inline(always)]
+    #[tactic(auto, using(crate::proofs::lemmas::Splices::spliced))]
+    fn put_array<const N: usize>(&mut self, v: &[u8; N]) -> Result<()>
+        ensures fits { IsOk result ↔ (N ≤ length (rest self.old)) }
+        ensures writes { IfOk result (λ _. Writes self.old self.new v.now) }
+        ensures bytes { IfOk result (λ _. bytes self.new
+            ≡ splice (bytes self.old) (position self.old) v.now) }
+        ensures unchanged { OnErr result (IsUnchanged self.old self.new) }
+        ensures keeps { Keeps self.old self.new }
+    {
+        if self.off > self.buf.len() || self.cap() < N {
+            return Err(BufferTooShortError);
+        }
+        put_first(self.buf.part_mut(self.off, N), v);
+        self.off += N;
+        Ok(())
+    }
+
     /// Writes as `put_bytes` does, but by a single copy. A loop that writes three bytes in each
     /// iteration isn't vectorized if each write is two overlapping copies.
     #[inline(always)]
@@ -94,6 +114,7 @@ impl<B: Buffer> Cursor<B> {
     /// cursor.write_u8(7)?;
     /// assert_eq!(cursor.buf(), [7, 0].as_slice());
     /// ```
+    #[inline(always)]
     #[tactic(auto, unfolding(crate::specs::Bytes::network))]
     pub fn write_u8(&mut self, v: u8) -> Result<()>
         ensures fits { IsOk result ↔ (1 ≤ length (rest self.old)) }
@@ -104,7 +125,7 @@ impl<B: Buffer> Cursor<B> {
         ensures unchanged { OnErr result (IsUnchanged self.old self.new) }
         ensures keeps { Keeps self.old self.new }
     {
-        self.put_bytes(&[v])
+        self.put_array(&[v])
     }
 
     /// Writes `v` as two bytes in network order.
@@ -115,6 +136,7 @@ impl<B: Buffer> Cursor<B> {
     /// cursor.write_u16(0x0102)?;
     /// assert_eq!(cursor.buf(), [1, 2, 0].as_slice());
     /// ```
+    #[inline(always)]
     #[tactic(auto, using(crate::proofs::Cursors::numbers), unfolding(crate::specs::Bytes::network))]
     pub fn write_u16(&mut self, v: u16) -> Result<()>
         ensures fits { IsOk result ↔ (2 ≤ length (rest self.old)) }
@@ -126,7 +148,7 @@ impl<B: Buffer> Cursor<B> {
         ensures keeps { Keeps self.old self.new }
     {
         let two = v.to_be_bytes();
-        self.put_bytes(&two)
+        self.put_array(&two)
     }
 
     /// Writes the lowest three bytes of `v` in network order.
@@ -137,6 +159,7 @@ impl<B: Buffer> Cursor<B> {
     /// cursor.write_u24(0x010203)?;
     /// assert_eq!(cursor.buf(), [1, 2, 3].as_slice());
     /// ```
+    #[inline(always)]
     #[tactic(auto, unfolding(crate::specs::Bytes::network))]
     pub fn write_u24(&mut self, v: u32) -> Result<()>
         ensures fits { IsOk result ↔ (3 ≤ length (rest self.old)) }
@@ -158,6 +181,7 @@ impl<B: Buffer> Cursor<B> {
     /// cursor.write_u32(0x01020304)?;
     /// assert_eq!(cursor.buf(), [1, 2, 3, 4].as_slice());
     /// ```
+    #[inline(always)]
     #[tactic(auto, unfolding(crate::specs::Bytes::network))]
     pub fn write_u32(&mut self, v: u32) -> Result<()>
         ensures fits { IsOk result ↔ (4 ≤ length (rest self.old)) }
@@ -169,7 +193,7 @@ impl<B: Buffer> Cursor<B> {
         ensures keeps { Keeps self.old self.new }
     {
         let four = v.to_be_bytes();
-        self.put_bytes(&four)
+        self.put_array(&four)
     }
 
     /// Writes `v` as eight bytes in network order.
@@ -180,6 +204,7 @@ impl<B: Buffer> Cursor<B> {
     /// cursor.write_u64(0x0102)?;
     /// assert_eq!(cursor.buf(), [0, 0, 0, 0, 0, 0, 1, 2].as_slice());
     /// ```
+    #[inline(always)]
     #[tactic(auto, using(crate::proofs::Cursors::numbers), unfolding(crate::specs::Bytes::network))]
     pub fn write_u64(&mut self, v: u64) -> Result<()>
         ensures fits { IsOk result ↔ (8 ≤ length (rest self.old)) }
@@ -191,7 +216,7 @@ impl<B: Buffer> Cursor<B> {
         ensures keeps { Keeps self.old self.new }
     {
         let eight = v.to_be_bytes();
-        self.put_bytes(&eight)
+        self.put_array(&eight)
     }
 
     /// Writes `v` as a varint of `len` bytes (RFC 9000, section 16). `len` must be 1, 2, 4 or 8,
@@ -203,6 +228,7 @@ impl<B: Buffer> Cursor<B> {
     /// cursor.write_varint_with_len(37, 2)?;
     /// assert_eq!(cursor.buf(), [0x40, 0x25, 0].as_slice());
     /// ```
+    #[inline(always)]
     #[tactic(auto, unfolding(crate::specs::Varints::varint))]
     pub fn write_varint_with_len(&mut self, v: u64, len: usize) -> Result<()>
         requires width { IsWidth len }
@@ -232,6 +258,7 @@ impl<B: Buffer> Cursor<B> {
     /// cursor.write_marked(0x123456, 2)?;
     /// assert_eq!(cursor.buf(), [0x74, 0x56, 0].as_slice());
     /// ```
+    #[inline(always)]
     pub fn write_marked(&mut self, v: u64, len: usize) -> Result<()>
         requires { IsWidth len }
         ensures fits { IsOk result ↔ (len ≤ length (rest self.old)) }
@@ -259,6 +286,7 @@ impl<B: Buffer> Cursor<B> {
     /// cursor.write_varint(15293)?;
     /// assert_eq!(cursor.buf(), [0x7b, 0xbd, 0].as_slice());
     /// ```
+    #[inline(always)]
     pub fn write_varint(&mut self, v: u64) -> Result<()>
         requires { v < 2 ^ 62 }
         ensures fits { IsOk result ↔ (shortest v ≤ length (rest self.old)) }

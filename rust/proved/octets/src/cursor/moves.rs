@@ -12,7 +12,7 @@ impl<B: Bytes> Cursor<B> {
     /// # Requires
     ///
     /// - `len ≤ length (rest self.old)`
-    #[inline]
+    #[inline(always)]
     pub(crate) fn advance(&mut self, len: usize) {
         // The proof needs this call: its clause `small` bounds the sum below.
         let _whole = self.buf.len();
@@ -25,7 +25,7 @@ impl<B: Bytes> Cursor<B> {
     /// # Requires
     ///
     /// - `width ≤ length (rest self.old)`
-    #[inline]
+    #[inline(always)]
     pub(crate) fn advance_by_width(&mut self, width: usize) {
         match width {
             1 => self.advance(1),
@@ -48,7 +48,7 @@ impl<B: Bytes> Cursor<B> {
     /// assert_eq!(cursor.rewind(2), Err(BufferTooShortError));
     /// # Ok::<(), Box<dyn core::error::Error>>(())
     /// ```
-    #[inline]
+    #[inline(always)]
     pub fn rewind(&mut self, len: usize) -> Result<()> {
         if self.off < len {
             return Err(BufferTooShortError);
@@ -69,7 +69,7 @@ impl<B: Bytes> Cursor<B> {
     /// assert_eq!(cursor.skip(2), Err(BufferTooShortError));
     /// # Ok::<(), Box<dyn core::error::Error>>(())
     /// ```
-    #[inline]
+    #[inline(always)]
     pub fn skip(&mut self, skip: usize) -> Result<()> {
         if skip > self.cap() {
             return Err(BufferTooShortError);

@@ -21,7 +21,7 @@ impl<'a> Octets<'a> {
     /// assert_eq!(cursor.off(), 0);
     /// assert_eq!(cursor.cap(), 3);
     /// ```
-    #[inline]
+    #[inline(always)]
     pub fn with_slice(buf: &'a [u8]) -> Self {
         Cursor { buf, off: 0 }
     }
@@ -35,13 +35,13 @@ impl<'a> Octets<'a> {
     /// assert_eq!(cursor.buf(), [1, 2, 3]);
     /// # Ok::<(), Box<dyn core::error::Error>>(())
     /// ```
-    #[inline]
+    #[inline(always)]
     pub fn buf(&self) -> &'a [u8] {
         known_bytes(self.buf)
     }
 
     /// Returns the bytes from the offset on, with the lifetime of the buffer.
-    #[inline]
+    #[inline(always)]
     pub(crate) fn unread(&self) -> &'a [u8] {
         let buf = self.buf;
         &buf[self.off..]
@@ -51,7 +51,7 @@ impl<'a> Octets<'a> {
 impl fmt::Debug for Octets<'_> {
     /// Formats the cursor like a struct `Octets` with the fields `buf`, which is the whole buffer,
     /// and `off`.
-    #[inline]
+    #[inline(always)]
     fn fmt(&self, f: &mut fmt::Formatter<'_>) -> fmt::Result {
         f.debug_struct("Octets")
             .field("buf", &self.buf)

@@ -22,7 +22,7 @@ impl<B: Bytes> Cursor<B> {
     /// assert_eq!(cursor.off(), 1);
     /// # Ok::<(), Box<dyn core::error::Error>>(())
     /// ```
-    #[inline]
+    #[inline(always)]
     pub fn get_u8(&mut self) -> Result<u8> {
         let value = read_u8(self.buf.as_slice(), self.off)?;
         self.advance(1);
@@ -41,7 +41,7 @@ impl<B: Bytes> Cursor<B> {
     /// assert_eq!(cursor.off(), 2);
     /// # Ok::<(), Box<dyn core::error::Error>>(())
     /// ```
-    #[inline]
+    #[inline(always)]
     pub fn get_u16(&mut self) -> Result<u16> {
         let value = read_u16(self.buf.as_slice(), self.off)?;
         self.advance(2);
@@ -58,7 +58,7 @@ impl<B: Bytes> Cursor<B> {
     /// assert_eq!(cursor.get_u24()?, 0x010203);
     /// # Ok::<(), Box<dyn core::error::Error>>(())
     /// ```
-    #[inline]
+    #[inline(always)]
     pub fn get_u24(&mut self) -> Result<u32> {
         let value = read_u24(self.buf.as_slice(), self.off)?;
         self.advance(3);
@@ -75,7 +75,7 @@ impl<B: Bytes> Cursor<B> {
     /// assert_eq!(cursor.get_u32()?, 0x01020304);
     /// # Ok::<(), Box<dyn core::error::Error>>(())
     /// ```
-    #[inline]
+    #[inline(always)]
     pub fn get_u32(&mut self) -> Result<u32> {
         let value = read_u32(self.buf.as_slice(), self.off)?;
         self.advance(4);
@@ -92,7 +92,7 @@ impl<B: Bytes> Cursor<B> {
     /// assert_eq!(cursor.get_u64()?, 0x01020304);
     /// # Ok::<(), Box<dyn core::error::Error>>(())
     /// ```
-    #[inline]
+    #[inline(always)]
     pub fn get_u64(&mut self) -> Result<u64> {
         let value = read_u64(self.buf.as_slice(), self.off)?;
         self.advance(8);
@@ -110,7 +110,7 @@ impl<B: Bytes> Cursor<B> {
     /// assert_eq!(cursor.off(), 0);
     /// # Ok::<(), Box<dyn core::error::Error>>(())
     /// ```
-    #[inline]
+    #[inline(always)]
     pub fn peek_u8(&mut self) -> Result<u8> {
         read_u8(self.buf.as_slice(), self.off)
     }
@@ -127,7 +127,7 @@ impl<B: Bytes> Cursor<B> {
     /// assert_eq!(cursor.off(), 2);
     /// # Ok::<(), Box<dyn core::error::Error>>(())
     /// ```
-    #[inline]
+    #[inline(always)]
     pub fn get_varint(&mut self) -> Result<u64> {
         let (width, value) = read_varint(self.buf.as_slice(), self.off)?;
         self.advance_by_width(width);
@@ -148,7 +148,7 @@ impl<B: Bytes> Cursor<B> {
     /// assert_eq!(cursor.get_varint_shortest(), Err(VarintError::Overlong));
     /// assert_eq!(cursor.off(), 1);
     /// ```
-    #[inline]
+    #[inline(always)]
     pub fn get_varint_shortest(&mut self) -> std::result::Result<u64, VarintError> {
         let value = read_varint_shortest(self.buf.as_slice(), self.off)?;
         self.advance(varint_len(value));

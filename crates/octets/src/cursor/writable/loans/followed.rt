@@ -37,6 +37,7 @@ impl<B: Buffer> Cursor<B> {
     /// cursor.as_mut()[0] = 9;
     /// assert_eq!(cursor.buf(), [1, 9, 3].as_slice());
     /// ```
+    #[inline(always)]
     pub fn as_mut(&mut self) -> &mut [u8]
         ensures* writes_back { sem 𝓛 (LendsPart B.row B.Bytes self.entry
             (position self.old) (position self.old) result) }
@@ -58,6 +59,7 @@ impl<B: Buffer> Cursor<B> {
     /// assert_eq!(cursor.buf(), [97, 98, 0].as_slice());
     /// assert_eq!(cursor.off(), 2);
     /// ```
+    #[inline(always)]
     pub fn lend(&mut self, len: usize) -> &mut [u8]
         requires { len ≤ length (rest self.old) }
         ensures* writes_back { sem 𝓛 (LendsPart B.row B.Bytes self.entry
@@ -81,6 +83,7 @@ impl<B: Buffer> Cursor<B> {
     /// cursor.lend_ahead(2).copy_from_slice(b"ab");
     /// assert_eq!(cursor.get_u8()?, 97);
     /// ```
+    #[inline(always)]
     pub fn lend_ahead(&mut self, len: usize) -> &mut [u8]
         requires { len ≤ length (rest self.old) }
         ensures* writes_back { sem 𝓛 (LendsPart B.row B.Bytes self.entry
@@ -103,6 +106,7 @@ impl<B: Buffer> Cursor<B> {
     /// cursor.lend_last(2).copy_from_slice(b"ab");
     /// assert_eq!(cursor.buf(), [0, 97, 98].as_slice());
     /// ```
+    #[inline(always)]
     pub fn lend_last(&mut self, len: usize) -> &mut [u8]
         requires { len ≤ length (bytes self.old) }
         ensures* writes_back { sem 𝓛 (LendsPart B.row B.Bytes self.entry
@@ -125,6 +129,7 @@ impl<B: Buffer> Cursor<B> {
     /// cursor.lend_whole().copy_from_slice(b"ab");
     /// assert_eq!(cursor.get_u8()?, 97);
     /// ```
+    #[inline(always)]
     pub fn lend_whole(&mut self) -> &mut [u8]
         ensures* writes_back { sem 𝓛 (LendsPart B.row B.Bytes self.entry
             0 (position self.old) result) }

@@ -24,6 +24,7 @@ impl<'a> OctetsMut<'a> {
     ghost use Rattle.octets.specs.Parts.{Leaves, LeavesPut};
 
     /// Returns the range of the next `len` bytes, and leaves the offset where it is.
+    #[inline(always)]
     pub(crate) fn part_ahead(&mut self, len: usize) -> Result<Part>
         ensures fits { IsOk result ↔ (len ≤ length (rest self.old)) }
         ensures leaves { Leaves self.old self.new result
@@ -37,6 +38,7 @@ impl<'a> OctetsMut<'a> {
     }
 
     /// Returns the range of the next `len` bytes, and moves the offset past them.
+    #[inline(always)]
     pub(crate) fn part_passed(&mut self, len: usize) -> Result<Part>
         ensures fits { IsOk result ↔ (len ≤ length (rest self.old)) }
         ensures leaves { Leaves self.old self.new result
@@ -49,6 +51,7 @@ impl<'a> OctetsMut<'a> {
 
     /// Returns the range of the last `len` bytes of the whole buffer, and leaves the offset where
     /// it is.
+    #[inline(always)]
     pub(crate) fn part_at_end(&mut self, len: usize) -> Result<Part>
         ensures fits { IsOk result ↔ (len ≤ length (rest self.old)) }
         ensures leaves { Leaves self.old self.new result
@@ -64,6 +67,7 @@ impl<'a> OctetsMut<'a> {
     }
 
     /// Writes `v` as one byte, moves the offset past it, and returns its range.
+    #[inline(always)]
     pub(crate) fn part_of_u8(&mut self, v: u8) -> Result<Part>
         ensures fits { IsOk result ↔ (1 ≤ length (rest self.old)) }
         ensures leaves { LeavesPut self.old self.new result (network 1 v) 1 }
@@ -74,6 +78,7 @@ impl<'a> OctetsMut<'a> {
     }
 
     /// Writes `v` as two bytes, moves the offset past them, and returns their range.
+    #[inline(always)]
     pub(crate) fn part_of_u16(&mut self, v: u16) -> Result<Part>
         ensures fits { IsOk result ↔ (2 ≤ length (rest self.old)) }
         ensures leaves { LeavesPut self.old self.new result (network 2 v) 2 }
@@ -84,6 +89,7 @@ impl<'a> OctetsMut<'a> {
     }
 
     /// Writes the lowest three bytes of `v`, moves the offset past them, and returns their range.
+    #[inline(always)]
     pub(crate) fn part_of_u24(&mut self, v: u32) -> Result<Part>
         ensures fits { IsOk result ↔ (3 ≤ length (rest self.old)) }
         ensures leaves { LeavesPut self.old self.new result (network 3 v) 3 }
@@ -94,6 +100,7 @@ impl<'a> OctetsMut<'a> {
     }
 
     /// Writes `v` as four bytes, moves the offset past them, and returns their range.
+    #[inline(always)]
     pub(crate) fn part_of_u32(&mut self, v: u32) -> Result<Part>
         ensures fits { IsOk result ↔ (4 ≤ length (rest self.old)) }
         ensures leaves { LeavesPut self.old self.new result (network 4 v) 4 }
@@ -104,6 +111,7 @@ impl<'a> OctetsMut<'a> {
     }
 
     /// Writes `v` as eight bytes, moves the offset past them, and returns their range.
+    #[inline(always)]
     pub(crate) fn part_of_u64(&mut self, v: u64) -> Result<Part>
         ensures fits { IsOk result ↔ (8 ≤ length (rest self.old)) }
         ensures leaves { LeavesPut self.old self.new result (network 8 v) 8 }
@@ -115,6 +123,7 @@ impl<'a> OctetsMut<'a> {
 
     /// Writes the varint of `v` of least width, moves the offset past it, and returns its range.
     /// `v` must be below 2 to the power 62.
+    #[inline(always)]
     pub(crate) fn part_of_varint(&mut self, v: u64) -> Result<Part>
         requires { v < 2 ^ 62 }
         ensures fits { IsOk result ↔ (shortest v ≤ length (rest self.old)) }
@@ -125,6 +134,7 @@ impl<'a> OctetsMut<'a> {
 
     /// Writes the varint of `v` in `len` bytes, moves the offset past it, and returns its range.
     /// `len` must be a width that holds `v`.
+    #[inline(always)]
     pub(crate) fn part_of_varint_with_len(&mut self, v: u64, len: usize) -> Result<Part>
         requires width { IsWidth len }
         requires held { v < 2 ^ (8 * len - 2) }
@@ -138,6 +148,7 @@ impl<'a> OctetsMut<'a> {
 
     /// Writes the lowest `len` bytes of `v` with the mark of the width, moves the offset past them,
     /// and returns their range. `len` must be a width.
+    #[inline(always)]
     pub(crate) fn part_of_marked(&mut self, v: u64, len: usize) -> Result<Part>
         requires { IsWidth len }
         ensures fits { IsOk result ↔ (len ≤ length (rest self.old)) }

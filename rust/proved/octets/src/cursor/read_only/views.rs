@@ -19,7 +19,7 @@ impl<'a> Octets<'a> {
     /// assert_eq!(cursor.get_bytes(2), Err(BufferTooShortError));
     /// # Ok::<(), Box<dyn core::error::Error>>(())
     /// ```
-    #[inline]
+    #[inline(always)]
     pub fn get_bytes(&mut self, len: usize) -> Result<Octets<'a>> {
         let view = self.peek_bytes(len)?;
         self.advance(len);
@@ -38,7 +38,7 @@ impl<'a> Octets<'a> {
     /// assert_eq!(cursor.off(), 0);
     /// # Ok::<(), Box<dyn core::error::Error>>(())
     /// ```
-    #[inline]
+    #[inline(always)]
     pub fn peek_bytes(&self, len: usize) -> Result<Octets<'a>> {
         Ok(Octets::with_slice(self.slice(len)?))
     }
@@ -54,7 +54,7 @@ impl<'a> Octets<'a> {
     /// assert_eq!(cursor.off(), 0);
     /// # Ok::<(), Box<dyn core::error::Error>>(())
     /// ```
-    #[inline]
+    #[inline(always)]
     pub fn slice(&self, len: usize) -> Result<&'a [u8]> {
         if len > self.cap() {
             return Err(BufferTooShortError);
@@ -73,7 +73,7 @@ impl<'a> Octets<'a> {
     /// assert_eq!(cursor.slice_last(2)?, [2, 3]);
     /// # Ok::<(), Box<dyn core::error::Error>>(())
     /// ```
-    #[inline]
+    #[inline(always)]
     pub fn slice_last(&self, len: usize) -> Result<&'a [u8]> {
         if self.cap() < len {
             return Err(BufferTooShortError);
@@ -96,7 +96,7 @@ impl<'a> Octets<'a> {
     /// assert_eq!(cursor.off(), 3);
     /// # Ok::<(), Box<dyn core::error::Error>>(())
     /// ```
-    #[inline]
+    #[inline(always)]
     pub fn get_bytes_with_u8_length(&mut self) -> Result<Octets<'a>> {
         let len = self.get_u8()?;
         self.get_bytes(usize::from(len))
@@ -116,7 +116,7 @@ impl<'a> Octets<'a> {
     /// assert_eq!(cursor.off(), 4);
     /// # Ok::<(), Box<dyn core::error::Error>>(())
     /// ```
-    #[inline]
+    #[inline(always)]
     pub fn get_bytes_with_u16_length(&mut self) -> Result<Octets<'a>> {
         let len = self.get_u16()?;
         self.get_bytes(usize::from(len))
@@ -136,7 +136,7 @@ impl<'a> Octets<'a> {
     /// assert_eq!(cursor.off(), 4);
     /// # Ok::<(), Box<dyn core::error::Error>>(())
     /// ```
-    #[inline]
+    #[inline(always)]
     pub fn get_bytes_with_varint_length(&mut self) -> Result<Octets<'a>> {
         let len = self.get_varint()?;
         if len > self.cap() as u64 {

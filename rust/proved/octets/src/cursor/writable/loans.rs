@@ -14,7 +14,7 @@ use crate::cursor::writable::loans::parts::Part;
 use crate::error::{BufferTooShortError, Result};
 
 /// Returns a cursor over the slice, at its start, if there is a slice.
-#[inline]
+#[inline(always)]
 fn view_of(lent: Result<&mut [u8]>) -> Result<OctetsMut<'_>> {
     match lent {
         Ok(part) => Ok(OctetsMut::with_slice(part)),
@@ -23,13 +23,13 @@ fn view_of(lent: Result<&mut [u8]>) -> Result<OctetsMut<'_>> {
 }
 
 /// Splits the bytes at position `off`, if there are at least `off` bytes.
-#[inline]
+#[inline(always)]
 fn halves(whole: &mut [u8], off: usize) -> Option<(&mut [u8], &mut [u8])> {
     whole.split_at_mut_checked(off)
 }
 
 /// Returns a cursor over each of the two slices, at its start, if there are two slices.
-#[inline]
+#[inline(always)]
 fn views_of<'b>(
     halves: Option<(&'b mut [u8], &'b mut [u8])>,
 ) -> Result<(OctetsMut<'b>, OctetsMut<'b>)> {
@@ -45,7 +45,7 @@ impl<'a> OctetsMut<'a> {
     /// # Requires
     ///
     /// - `IfOk part (λ p. IsWithin p (bytes self.old))`
-    #[inline]
+    #[inline(always)]
     fn lend_part(&mut self, part: Result<Part>) -> Result<&mut [u8]>// The proof is hand-written, so any edit of the body breaks it: see CONTRIBUTING.md.
     {
         match part {
@@ -59,7 +59,7 @@ impl<'a> OctetsMut<'a> {
     /// # Requires
     ///
     /// - `IfOk part (λ p. IsWithin p (bytes self.old))`
-    #[inline]
+    #[inline(always)]
     fn lend_view(&mut self, part: Result<Part>) -> Result<OctetsMut<'_>>// The proof is hand-written, so any edit of the body breaks it: see CONTRIBUTING.md.
     {
         view_of(self.lend_part(part))
@@ -77,7 +77,7 @@ impl<'a> OctetsMut<'a> {
     /// assert_eq!(cursor.get_u8()?, 9);
     /// # Ok::<(), Box<dyn core::error::Error>>(())
     /// ```
-    #[inline]
+    #[inline(always)]
     pub fn slice(&mut self, len: usize) -> Result<&mut [u8]>// The proof is hand-written, so any edit of the body breaks it: see CONTRIBUTING.md.
     {
         let part = self.part_ahead(len);
@@ -96,7 +96,7 @@ impl<'a> OctetsMut<'a> {
     /// assert_eq!(cursor.buf(), [1, 2, 9]);
     /// # Ok::<(), Box<dyn core::error::Error>>(())
     /// ```
-    #[inline]
+    #[inline(always)]
     pub fn slice_last(&mut self, len: usize) -> Result<&mut [u8]>// The proof is hand-written, so any edit of the body breaks it: see CONTRIBUTING.md.
     {
         let part = self.part_at_end(len);
@@ -116,7 +116,7 @@ impl<'a> OctetsMut<'a> {
     /// assert_eq!(cursor.off(), 2);
     /// # Ok::<(), Box<dyn core::error::Error>>(())
     /// ```
-    #[inline]
+    #[inline(always)]
     pub fn get_bytes_mut(&mut self, len: usize) -> Result<OctetsMut<'_>>// The proof is hand-written, so any edit of the body breaks it: see CONTRIBUTING.md.
     {
         let part = self.part_passed(len);
@@ -135,7 +135,7 @@ impl<'a> OctetsMut<'a> {
     /// assert_eq!(cursor.get_u16()?, 0x0102);
     /// # Ok::<(), Box<dyn core::error::Error>>(())
     /// ```
-    #[inline]
+    #[inline(always)]
     pub fn peek_bytes_mut(&mut self, len: usize) -> Result<OctetsMut<'_>>// The proof is hand-written, so any edit of the body breaks it: see CONTRIBUTING.md.
     {
         let ahead = self.part_ahead(len);
@@ -156,7 +156,7 @@ impl<'a> OctetsMut<'a> {
     /// assert_eq!(right.buf(), [2, 3]);
     /// # Ok::<(), Box<dyn core::error::Error>>(())
     /// ```
-    #[inline]
+    #[inline(always)]
     pub fn split_at(&mut self, off: usize) -> Result<(OctetsMut<'_>, OctetsMut<'_>)>// The proof is hand-written, so any edit of the body breaks it: see CONTRIBUTING.md.
     {
         let parts = halves(&mut *self.buf, off);
@@ -176,7 +176,7 @@ impl<'a> OctetsMut<'a> {
     /// assert_eq!(cursor.buf(), [7, 0]);
     /// # Ok::<(), Box<dyn core::error::Error>>(())
     /// ```
-    #[inline]
+    #[inline(always)]
     pub fn put_u8(&mut self, v: u8) -> Result<&mut [u8]>// The proof is hand-written, so any edit of the body breaks it: see CONTRIBUTING.md.
     {
         let part = self.part_of_u8(v);
@@ -197,7 +197,7 @@ impl<'a> OctetsMut<'a> {
     /// assert_eq!(cursor.buf(), [1, 9, 0]);
     /// # Ok::<(), Box<dyn core::error::Error>>(())
     /// ```
-    #[inline]
+    #[inline(always)]
     pub fn put_u16(&mut self, v: u16) -> Result<&mut [u8]>// The proof is hand-written, so any edit of the body breaks it: see CONTRIBUTING.md.
     {
         let part = self.part_of_u16(v);
@@ -218,7 +218,7 @@ impl<'a> OctetsMut<'a> {
     /// assert_eq!(cursor.buf(), [1, 2, 3]);
     /// # Ok::<(), Box<dyn core::error::Error>>(())
     /// ```
-    #[inline]
+    #[inline(always)]
     pub fn put_u24(&mut self, v: u32) -> Result<&mut [u8]>// The proof is hand-written, so any edit of the body breaks it: see CONTRIBUTING.md.
     {
         let part = self.part_of_u24(v);
@@ -239,7 +239,7 @@ impl<'a> OctetsMut<'a> {
     /// assert_eq!(cursor.buf(), [1, 2, 3, 4]);
     /// # Ok::<(), Box<dyn core::error::Error>>(())
     /// ```
-    #[inline]
+    #[inline(always)]
     pub fn put_u32(&mut self, v: u32) -> Result<&mut [u8]>// The proof is hand-written, so any edit of the body breaks it: see CONTRIBUTING.md.
     {
         let part = self.part_of_u32(v);
@@ -260,7 +260,7 @@ impl<'a> OctetsMut<'a> {
     /// assert_eq!(cursor.buf(), [0, 0, 0, 0, 0, 0, 1, 2]);
     /// # Ok::<(), Box<dyn core::error::Error>>(())
     /// ```
-    #[inline]
+    #[inline(always)]
     pub fn put_u64(&mut self, v: u64) -> Result<&mut [u8]>// The proof is hand-written, so any edit of the body breaks it: see CONTRIBUTING.md.
     {
         let part = self.part_of_u64(v);
@@ -284,7 +284,7 @@ impl<'a> OctetsMut<'a> {
     /// # Requires
     ///
     /// - `v < 2 ^ 62`
-    #[inline]
+    #[inline(always)]
     #[cfg_attr(feature = "checked", track_caller)]
     pub fn put_varint(&mut self, v: u64) -> Result<&mut [u8]>// The proof is hand-written, so any edit of the body breaks it: see CONTRIBUTING.md.
     {
@@ -313,7 +313,7 @@ impl<'a> OctetsMut<'a> {
     ///
     /// - `IsWidth len`
     /// - `v < 2 ^ (8 * len - 2)`
-    #[inline]
+    #[inline(always)]
     #[cfg_attr(feature = "checked", track_caller)]
     pub fn put_varint_with_len(&mut self, v: u64, len: usize) -> Result<&mut [u8]>// The proof is hand-written, so any edit of the body breaks it: see CONTRIBUTING.md.
     {
@@ -340,7 +340,7 @@ impl<'a> OctetsMut<'a> {
     /// # Requires
     ///
     /// - `IsWidth len`
-    #[inline]
+    #[inline(always)]
     #[cfg_attr(feature = "checked", track_caller)]
     pub fn put_marked(&mut self, v: u64, len: usize) -> Result<&mut [u8]> {
         #[cfg(feature = "checked")]

@@ -22,7 +22,7 @@ impl<B: Buffer> Cursor<B> {
     /// assert_eq!(cursor.off(), 0);
     /// # Ok::<(), Box<dyn core::error::Error>>(())
     /// ```
-    #[inline]
+    #[inline(always)]
     pub fn peek_bytes(&mut self, len: usize) -> Result<Octets<'_>> {
         if len > self.cap() {
             return Err(BufferTooShortError);
@@ -44,7 +44,7 @@ impl<B: Buffer> Cursor<B> {
     /// assert_eq!(cursor.get_bytes(2), Err(BufferTooShortError));
     /// # Ok::<(), Box<dyn core::error::Error>>(())
     /// ```
-    #[inline]
+    #[inline(always)]
     pub fn get_bytes(&mut self, len: usize) -> Result<Octets<'_>> {
         if len > self.cap() {
             return Err(BufferTooShortError);
@@ -69,7 +69,7 @@ impl<B: Buffer> Cursor<B> {
     /// assert_eq!(cursor.off(), 3);
     /// # Ok::<(), Box<dyn core::error::Error>>(())
     /// ```
-    #[inline]
+    #[inline(always)]
     pub fn get_bytes_with_u8_length(&mut self) -> Result<Octets<'_>> {
         let len = self.get_u8()?;
         self.get_bytes(usize::from(len))
@@ -90,7 +90,7 @@ impl<B: Buffer> Cursor<B> {
     /// assert_eq!(cursor.off(), 4);
     /// # Ok::<(), Box<dyn core::error::Error>>(())
     /// ```
-    #[inline]
+    #[inline(always)]
     pub fn get_bytes_with_u16_length(&mut self) -> Result<Octets<'_>> {
         let len = self.get_u16()?;
         self.get_bytes(usize::from(len))
@@ -111,7 +111,7 @@ impl<B: Buffer> Cursor<B> {
     /// assert_eq!(cursor.off(), 4);
     /// # Ok::<(), Box<dyn core::error::Error>>(())
     /// ```
-    #[inline]
+    #[inline(always)]
     pub fn get_bytes_with_varint_length(&mut self) -> Result<Octets<'_>> {
         let len = self.get_varint()?;
         if len > self.cap() as u64 {

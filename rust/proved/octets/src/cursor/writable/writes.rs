@@ -2,7 +2,7 @@
 //! Writes that lend nothing.
 use rattle_std::{self as std, prelude::*};
 
-use crate::copies::copy;
+use crate::copies::{copy, put_first};
 use crate::cursor::Cursor;
 use crate::cursor::buffer::Buffer;
 use crate::error::{BufferTooShortError, Result};
@@ -54,6 +54,18 @@ impl<B: Buffer> Cursor<B> {
         self.off = from + v.len();
     }
 
+    /// Writes all bytes of the array, and moves the offset past them. rustc copies an array without
+    /// a call, also where it optimizes for size or not at all.
+    #[inline(always)]
+    fn put_array<const N: usize>(&mut self, v: &[u8; N]) -> Result<()> {
+        if self.off > self.buf.len() || self.cap() < N {
+            return Err(BufferTooShortError);
+        }
+        put_first(self.buf.part_mut(self.off, N), v);
+        self.off += N;
+        Ok(())
+    }
+
     /// Writes as `put_bytes` does, but by a single copy. A loop that writes three bytes in each
     /// iteration isn't vectorized if each write is two overlapping copies.
     #[inline(always)]
@@ -76,9 +88,9 @@ impl<B: Buffer> Cursor<B> {
     /// assert_eq!(cursor.buf(), [7, 0]);
     /// # Ok::<(), Box<dyn core::error::Error>>(())
     /// ```
-    #[inline]
+    #[inline(always)]
     pub fn write_u8(&mut self, v: u8) -> Result<()> {
-        self.put_bytes(&[v])
+        self.put_array(&[v])
     }
 
     /// Writes `v` as two bytes in network order.
@@ -91,10 +103,10 @@ impl<B: Buffer> Cursor<B> {
     /// assert_eq!(cursor.buf(), [1, 2, 0]);
     /// # Ok::<(), Box<dyn core::error::Error>>(())
     /// ```
-    #[inline]
+    #[inline(always)]
     pub fn write_u16(&mut self, v: u16) -> Result<()> {
         let two = v.to_be_bytes();
-        self.put_bytes(&two)
+        self.put_array(&two)
     }
 
     /// Writes the lowest three bytes of `v` in network order.
@@ -107,7 +119,7 @@ impl<B: Buffer> Cursor<B> {
     /// assert_eq!(cursor.buf(), [1, 2, 3]);
     /// # Ok::<(), Box<dyn core::error::Error>>(())
     /// ```
-    #[inline]
+    #[inline(always)]
     pub fn write_u24(&mut self, v: u32) -> Result<()> {
         self.put_in_one_run(&v.to_be_bytes()[1..])
     }
@@ -122,10 +134,10 @@ impl<B: Buffer> Cursor<B> {
     /// assert_eq!(cursor.buf(), [1, 2, 3, 4]);
     /// # Ok::<(), Box<dyn core::error::Error>>(())
     /// ```
-    #[inline]
+    #[inline(always)]
     pub fn write_u32(&mut self, v: u32) -> Result<()> {
         let four = v.to_be_bytes();
-        self.put_bytes(&four)
+        self.put_array(&four)
     }
 
     /// Writes `v` as eight bytes in network order.
@@ -138,10 +150,10 @@ impl<B: Buffer> Cursor<B> {
     /// assert_eq!(cursor.buf(), [0, 0, 0, 0, 0, 0, 1, 2]);
     /// # Ok::<(), Box<dyn core::error::Error>>(())
     /// ```
-    #[inline]
+    #[inline(always)]
     pub fn write_u64(&mut self, v: u64) -> Result<()> {
         let eight = v.to_be_bytes();
-        self.put_bytes(&eight)
+        self.put_array(&eight)
     }
 
     /// Writes `v` as a varint of `len` bytes (RFC 9000, section 16). `len` must be 1, 2, 4 or 8,
@@ -160,7 +172,7 @@ impl<B: Buffer> Cursor<B> {
     ///
     /// - `IsWidth len`
     /// - `v < 2 ^ (8 * len - 2)`
-    #[inline]
+    #[inline(always)]
     #[cfg_attr(feature = "checked", track_caller)]
     pub fn write_varint_with_len(&mut self, v: u64, len: usize) -> Result<()> {
         #[cfg(feature = "checked")]
@@ -190,7 +202,7 @@ impl<B: Buffer> Cursor<B> {
     /// # Requires
     ///
     /// - `IsWidth len`
-    #[inline]
+    #[inline(always)]
     #[cfg_attr(feature = "checked", track_caller)]
     pub fn write_marked(&mut self, v: u64, len: usize) -> Result<()> {
         #[cfg(feature = "checked")]
@@ -218,7 +230,7 @@ impl<B: Buffer> Cursor<B> {
     /// # Requires
     ///
     /// - `v < 2 ^ 62`
-    #[inline]
+    #[inline(always)]
     #[cfg_attr(feature = "checked", track_caller)]
     pub fn write_varint(&mut self, v: u64) -> Result<()> {
         #[cfg(feature = "checked")]

@@ -33,7 +33,7 @@ impl<B: Buffer> Cursor<B> {
     /// assert_eq!(cursor.buf(), [1, 9, 3]);
     /// # Ok::<(), Box<dyn core::error::Error>>(())
     /// ```
-    #[inline]
+    #[inline(always)]
     pub fn as_mut(&mut self) -> &mut [u8] {
         let len = self.cap();
         let start = self.off;
@@ -56,7 +56,7 @@ impl<B: Buffer> Cursor<B> {
     /// # Requires
     ///
     /// - `len ≤ length (rest self.old)`
-    #[inline]
+    #[inline(always)]
     #[cfg_attr(feature = "checked", track_caller)]
     pub fn lend(&mut self, len: usize) -> &mut [u8] {
         #[cfg(feature = "checked")]
@@ -84,7 +84,7 @@ impl<B: Buffer> Cursor<B> {
     /// # Requires
     ///
     /// - `len ≤ length (rest self.old)`
-    #[inline]
+    #[inline(always)]
     #[cfg_attr(feature = "checked", track_caller)]
     pub fn lend_ahead(&mut self, len: usize) -> &mut [u8] {
         #[cfg(feature = "checked")]
@@ -110,7 +110,7 @@ impl<B: Buffer> Cursor<B> {
     /// # Requires
     ///
     /// - `len ≤ length (bytes self.old)`
-    #[inline]
+    #[inline(always)]
     #[cfg_attr(feature = "checked", track_caller)]
     pub fn lend_last(&mut self, len: usize) -> &mut [u8] {
         #[cfg(feature = "checked")]
@@ -133,7 +133,7 @@ impl<B: Buffer> Cursor<B> {
     /// assert_eq!(cursor.get_u8()?, 97);
     /// # Ok::<(), Box<dyn core::error::Error>>(())
     /// ```
-    #[inline]
+    #[inline(always)]
     pub fn lend_whole(&mut self) -> &mut [u8] {
         let len = self.len();
         self.lend_at(0, len)

@@ -17,7 +17,7 @@ pub(crate) struct Part {
 
 impl<'a> OctetsMut<'a> {
     /// Returns the range of the next `len` bytes, and leaves the offset where it is.
-    #[inline]
+    #[inline(always)]
     pub(crate) fn part_ahead(&mut self, len: usize) -> Result<Part> {
         if len > self.cap() {
             return Err(BufferTooShortError);
@@ -27,7 +27,7 @@ impl<'a> OctetsMut<'a> {
     }
 
     /// Returns the range of the next `len` bytes, and moves the offset past them.
-    #[inline]
+    #[inline(always)]
     pub(crate) fn part_passed(&mut self, len: usize) -> Result<Part> {
         let part = self.part_ahead(len)?;
         self.off += len;
@@ -36,7 +36,7 @@ impl<'a> OctetsMut<'a> {
 
     /// Returns the range of the last `len` bytes of the whole buffer, and leaves the offset where
     /// it is.
-    #[inline]
+    #[inline(always)]
     pub(crate) fn part_at_end(&mut self, len: usize) -> Result<Part> {
         if self.cap() < len {
             return Err(BufferTooShortError);
@@ -48,7 +48,7 @@ impl<'a> OctetsMut<'a> {
     }
 
     /// Writes `v` as one byte, moves the offset past it, and returns its range.
-    #[inline]
+    #[inline(always)]
     pub(crate) fn part_of_u8(&mut self, v: u8) -> Result<Part> {
         let from = self.off;
         self.write_u8(v)?;
@@ -56,7 +56,7 @@ impl<'a> OctetsMut<'a> {
     }
 
     /// Writes `v` as two bytes, moves the offset past them, and returns their range.
-    #[inline]
+    #[inline(always)]
     pub(crate) fn part_of_u16(&mut self, v: u16) -> Result<Part> {
         let from = self.off;
         self.write_u16(v)?;
@@ -64,7 +64,7 @@ impl<'a> OctetsMut<'a> {
     }
 
     /// Writes the lowest three bytes of `v`, moves the offset past them, and returns their range.
-    #[inline]
+    #[inline(always)]
     pub(crate) fn part_of_u24(&mut self, v: u32) -> Result<Part> {
         let from = self.off;
         self.write_u24(v)?;
@@ -72,7 +72,7 @@ impl<'a> OctetsMut<'a> {
     }
 
     /// Writes `v` as four bytes, moves the offset past them, and returns their range.
-    #[inline]
+    #[inline(always)]
     pub(crate) fn part_of_u32(&mut self, v: u32) -> Result<Part> {
         let from = self.off;
         self.write_u32(v)?;
@@ -80,7 +80,7 @@ impl<'a> OctetsMut<'a> {
     }
 
     /// Writes `v` as eight bytes, moves the offset past them, and returns their range.
-    #[inline]
+    #[inline(always)]
     pub(crate) fn part_of_u64(&mut self, v: u64) -> Result<Part> {
         let from = self.off;
         self.write_u64(v)?;
@@ -93,7 +93,7 @@ impl<'a> OctetsMut<'a> {
     /// # Requires
     ///
     /// - `v < 2 ^ 62`
-    #[inline]
+    #[inline(always)]
     pub(crate) fn part_of_varint(&mut self, v: u64) -> Result<Part> {
         self.part_of_varint_with_len(v, varint_len(v))
     }
@@ -105,7 +105,7 @@ impl<'a> OctetsMut<'a> {
     ///
     /// - `IsWidth len`
     /// - `v < 2 ^ (8 * len - 2)`
-    #[inline]
+    #[inline(always)]
     pub(crate) fn part_of_varint_with_len(&mut self, v: u64, len: usize) -> Result<Part> {
         let from = self.off;
         self.write_varint_with_len(v, len)?;
@@ -118,7 +118,7 @@ impl<'a> OctetsMut<'a> {
     /// # Requires
     ///
     /// - `IsWidth len`
-    #[inline]
+    #[inline(always)]
     pub(crate) fn part_of_marked(&mut self, v: u64, len: usize) -> Result<Part> {
         let from = self.off;
         self.write_marked(v, len)?;
