@@ -6,6 +6,9 @@ fn main() {
     let text = std::fs::read_to_string("src/loops.rs").expect("the loops");
     let loops: String = text.lines().filter(|line| !line.starts_with("//!")).flat_map(|line| [line, "\n"]).collect();
     let out = var("OUT_DIR").expect("cargo sets OUT_DIR");
+    // A loop that is counted has to be a function of its own.
+    println!("cargo:rerun-if-env-changed=BENCH_COUNTED");
+    let loops = if var("BENCH_COUNTED").is_ok() { loops.replace("\npub fn", "\n#[inline(never)]\npub fn") } else { loops };
     for name in ["ours", "theirs"] {
         let over = format!("use ::{name} as octets;\n{loops}");
         std::fs::write(format!("{out}/{name}.rs"), over).expect("the loops are written");

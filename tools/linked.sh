@@ -70,13 +70,17 @@ END
     registry=(--offline --config 'source.crates-io.replace-with="original"' --config "source.original.directory='$1'")
 }
 
-# Has cargo build as a program does whose profile has lto = "fat", "thin" or "off", or no profile at all, which is the
-# default. Without LTO cargo still optimizes the parts of a crate together; with "off" it doesn't.
+# Has cargo build as a program does whose profile has lto = "fat", "thin" or "off", or opt-level = "z", or no profile at all,
+# which is the default; or as `cargo build` does without --release, which is debug. Without LTO cargo still optimizes the parts
+# of a crate together; with "off" it doesn't.
 choose_build() {
+    export CARGO_PROFILE_RELEASE_LTO=false CARGO_PROFILE_RELEASE_CODEGEN_UNITS=16
     case $1 in
     fat) export CARGO_PROFILE_RELEASE_LTO=fat CARGO_PROFILE_RELEASE_CODEGEN_UNITS=1 ;;
-    thin | off) export CARGO_PROFILE_RELEASE_LTO=$1 CARGO_PROFILE_RELEASE_CODEGEN_UNITS=16 ;;
-    default) export CARGO_PROFILE_RELEASE_LTO=false CARGO_PROFILE_RELEASE_CODEGEN_UNITS=16 ;;
+    thin | off) export CARGO_PROFILE_RELEASE_LTO=$1 ;;
+    z) export CARGO_PROFILE_RELEASE_OPT_LEVEL=z ;;
+    debug) export PROFILE=dev ;;
+    default) ;;
     *) return 1 ;;
     esac
 }
@@ -103,7 +107,8 @@ run_at_places() {
 
 # Builds the program of a folder, over the library and the Rust crate, and runs it with the words that follow. FLAGS are
 # further flags of the compiler, CPU another processor, PROFILE another profile of cargo's than release, FEATURES
-# features of the program, and REGISTRY a folder with the crates that it needs, in the place of the Rust crate.
+# features of the program, REGISTRY a folder with the crates that it needs, in the place of the Rust crate, and UNDER a command
+# under which the program runs.
 run_beside() {
     local folder=$top/$1 registry=() profile=${PROFILE:-release}
     shift
@@ -117,7 +122,9 @@ run_beside() {
     RUSTFLAGS="-C target-cpu=${CPU:-x86-64-v2} ${FLAGS:-}" \
         cargo build --quiet --profile "$profile" --manifest-path "$folder/Cargo.toml" \
         --features "${FEATURES:-}" "${registry[@]}"
-    "$CARGO_TARGET_DIR/${profile/#dev/debug}/${folder##*/}" "$@"
+    # The command of UNDER, if any, is words.
+    # shellcheck disable=SC2086
+    ${UNDER:-} "$CARGO_TARGET_DIR/${profile/#dev/debug}/${folder##*/}" "$@"
 }
 
 # Replaces the lines of bench/results.tsv that begin with this name by those of the standard input.

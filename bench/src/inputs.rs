@@ -1,7 +1,10 @@
 //! The inputs, which are the same in each run.
-use crate::theirs;
+use crate::prepared;
 
 pub const CALLS: usize = 8192;
+/// A branch predictor learns the widths of a few thousand varints, and not those of a million.
+pub const FEW: usize = 4096;
+pub const MANY: usize = 1 << 20;
 pub const BYTES: usize = 16_384;
 
 /// A generator that gives the same numbers in each run.
@@ -23,8 +26,8 @@ impl Random {
         (0..len).map(|_| (self.next() >> 24) as u8).collect()
     }
 
-    /// Returns numbers whose varints have `width` bytes, or any number of bytes if `width` is 0.
-    pub fn numbers(&mut self, width: usize) -> Vec<u64> {
+    /// Returns so many numbers whose varints have `width` bytes, or any number of bytes if `width` is 0.
+    pub fn numbers(&mut self, width: usize, count: usize) -> Vec<u64> {
         let any = |_| {
             let x = self.next() >> 3;
             match if width == 0 { 1 << (x % 4) } else { width } {
@@ -34,7 +37,7 @@ impl Random {
                 _ => (1 << 30) + x,
             }
         };
-        (0..CALLS).map(any).collect()
+        (0..count).map(any).collect()
     }
 
     /// Returns how many runs of less than 30 bytes there are, and the runs, each after its length, whose high bytes are
@@ -120,7 +123,7 @@ pub fn encoded(values: &[u8], each: usize) -> (Vec<u8>, Vec<u64>) {
     let mut out = vec![0; 4 * each + 16];
     let (mut texts, mut lens) = (Vec::new(), Vec::new());
     for value in values.chunks(each) {
-        let len = theirs::encode(value, each, &mut out);
+        let len = prepared::encode(value, each, &mut out);
         texts.extend(&out[..len]);
         lens.push(len as u64);
     }

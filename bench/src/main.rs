@@ -23,6 +23,12 @@ mod theirs {
     include!(concat!(env!("OUT_DIR"), "/theirs.rs"));
 }
 
+/// The loops over the other crate once more, which prepare the inputs, so that these aren't counted.
+#[allow(dead_code)]
+mod prepared {
+    include!(concat!(env!("OUT_DIR"), "/theirs.rs"));
+}
+
 /// How many bytes the code of the loops is moved by.
 const PLACE: usize = match option_env!("BENCH_PLACE") {
     None => 0,

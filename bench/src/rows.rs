@@ -1,7 +1,7 @@
 //! Times the same loops over the calls of both libraries. Each compiler inlines the calls of its library.
-use crate::inputs::{encoded, value, Random, BYTES, CALLS};
+use crate::inputs::{encoded, value, Random, BYTES, CALLS, FEW, MANY};
 use crate::race::race;
-use crate::{ours, placed, row, theirs};
+use crate::{ours, placed, prepared, row, theirs};
 use std::hint::black_box;
 
 /// Times a loop that handles this many units.
@@ -35,7 +35,7 @@ fn numbers_of_a_width(random: &mut Random) {
     read!("`get_u24`", "call", BYTES / 3, get_u24(&bytes));
     read!("`get_u32`", "call", BYTES / 4, get_u32(&bytes));
     read!("`get_u64`", "call", BYTES / 8, get_u64(&bytes));
-    let given = random.numbers(0);
+    let given = random.numbers(0, CALLS);
     write!("`put_u8`", "call", CALLS, put_u8(&given), 8 * CALLS);
     write!("`put_u16`", "call", CALLS, put_u16(&given), 8 * CALLS);
     write!("`put_u24`", "call", CALLS, put_u24(&given), 8 * CALLS);
@@ -48,17 +48,35 @@ fn numbers_of_a_width(random: &mut Random) {
 }
 
 fn varints(random: &mut Random) {
-    for (name, width) in [("1 byte", 1), ("2 bytes", 2), ("4 bytes", 4), ("8 bytes", 8), ("any width", 0)] {
-        let (given, room) = (random.numbers(width), 15 * CALLS);
+    for (name, width, count) in [
+        ("1 byte", 1, CALLS),
+        ("2 bytes", 2, CALLS),
+        ("4 bytes", 4, CALLS),
+        ("8 bytes", 8, CALLS),
+        ("any width", 0, FEW),
+        ("any width, a million", 0, MANY),
+    ] {
+        let (given, room) = (random.numbers(width, count), 15 * count);
         let mut out = vec![0; room];
-        write!(format!("`put_varint` of {name}"), "call", CALLS, put_varint(&given), room);
-        let len = theirs::put_varint(&given, &mut out);
-        read!(format!("`get_varint` of {name}"), "call", CALLS, get_varint(&out[..len]));
+        write!(format!("`put_varint` of {name}"), "call", count, put_varint(&given), room);
+        let len = prepared::put_varint(&given, &mut out);
+        read!(format!("`get_varint` of {name}"), "call", count, get_varint(&out[..len]));
+        if count == MANY {
+            continue;
+        }
         let what = format!("`put_u8`, `put_u16`, `put_varint` of {name}, `put_u32`");
-        write!(what, "packet", CALLS, put_packets(&given), room);
-        let len = theirs::put_packets(&given, &mut out);
+        write!(what, "packet", count, put_packets(&given), room);
+        let len = prepared::put_packets(&given, &mut out);
         let what = format!("`get_u8`, `get_u16`, `get_varint` of {name}, `get_u32`");
-        read!(what, "packet", CALLS, get_packets(&out[..len]));
+        read!(what, "packet", count, get_packets(&out[..len]));
+    }
+}
+
+#[cfg(not(feature = "library"))]
+fn copies(random: &mut Random) {
+    let bytes = random.bytes(BYTES);
+    for each in [20, 200] {
+        read!(format!("`to_vec` of {each}"), "call", BYTES / each, to_vec(&bytes, each));
     }
 }
 
@@ -118,6 +136,8 @@ pub fn rows() {
     numbers_of_a_width(&mut random);
     varints(&mut random);
     runs(&mut random);
+    #[cfg(not(feature = "library"))]
+    copies(&mut random);
     texts("header text", &[1, 8, 16, 24, 64, 1024, 16384]);
     if cfg!(feature = "library") {
         texts("other header text", &[8, 24, 200, 16384]);

@@ -3,13 +3,11 @@
 mod octets;
 mod octets_mut;
 
-use crate::memory;
 use alloc::vec::Vec;
 use core::fmt;
 use octets_verified as proved;
 #[cfg(feature = "more")]
-use rattle_std::alloc::AllocError;
-use rattle_std::alloc::Global;
+use rattle_std::alloc::{AllocError, Global};
 
 /// A cursor for reading: a borrowed slice of bytes, which is its buffer, and an offset into the buffer, which is 0 at first.
 ///
@@ -51,10 +49,7 @@ macro_rules! both {
             /// # Ok::<(), BufferTooShortError>(())
             /// ```
             pub fn to_vec(&self) -> Vec<u8> {
-                match self.0.to_vec(Global) {
-                    Ok(bytes) => bytes.into(),
-                    Err(_) => memory::exhausted(self.cap()),
-                }
+                self.as_ref().to_vec()
             }
 
             /// Copies the bytes that remain, as [`to_vec`](Self::to_vec) does, but returns an error if the allocation fails.

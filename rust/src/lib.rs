@@ -94,7 +94,8 @@
 //!
 //! The unverified part is small and covered by tests:
 //!
-//! - this crate's methods, which call the verified functions, and are generated where the signature is the same;
+//! - this crate's methods, which call the verified functions, and are generated where the signature is the same; and `to_vec`,
+//!   which copies what the verified `as_ref` lends by `to_vec` of Rust's slices;
 //! - the comparison in [`varint_len`] and [`OctetsMut::put_varint`] that panics if no varint holds the number;
 //! - what [`OctetsMut::put_varint_with_len`] does with a number that doesn't fit the width (`src/unfit.rs`);
 //! - the end of the program if an allocation fails (`src/memory.rs`);
@@ -113,6 +114,7 @@ extern crate alloc;
 // rustdoc shows the methods of a cursor in the order of these modules.
 mod forwards;
 mod cursors;
+#[cfg(feature = "huffman_hpack")]
 mod memory;
 #[cfg(feature = "more")]
 pub mod more;

@@ -9,7 +9,9 @@ use quinn_proto::coding::{BufExt, BufMutExt};
 use std::arch::asm;
 use std::hint::black_box;
 
-const VARINTS: usize = 4096;
+/// How many varints of irregular widths are read or written in turn. A branch predictor learns the widths of a few thousand, and
+/// not those of a million.
+const COUNTS: [(usize, &str); 2] = [(4096, ""), (1 << 20, ", a million")];
 
 /// How many bytes the code of the loops is moved by.
 const PLACE: usize = match usize::from_str_radix(env!("BENCH_PLACE"), 10) {
@@ -105,7 +107,7 @@ mod theirs {
 
 /// Times a call of both crates.
 macro_rules! row {
-    ($what:literal, $units:expr, $ours:expr, $theirs:expr) => {
+    ($what:expr, $units:expr, $ours:expr, $theirs:expr) => {
         let times = race::race(
             $units,
             &mut || {
@@ -152,11 +154,17 @@ fn frames(numbers: &[u64]) -> Vec<u8> {
 }
 
 fn main() {
-    let numbers = numbers(VARINTS);
-    let (mut a, mut b) = (vec![0; 8 * VARINTS], vec![0; 8 * VARINTS]);
+    for (count, many) in COUNTS {
+        varints(count, many);
+    }
+}
+
+fn varints(count: usize, many: &str) {
+    let numbers = numbers(count);
+    let (mut a, mut b) = (vec![0; 8 * count], vec![0; 8 * count]);
     row!(
-        "write varints",
-        VARINTS,
+        format!("write varints{many}"),
+        count,
         ours::write(black_box(&numbers), black_box(&mut a)),
         theirs::write(black_box(&numbers), black_box(&mut b))
     );
@@ -164,12 +172,12 @@ fn main() {
     let written = ours::write(&numbers, &mut a);
     a.truncate(written);
     let packet = Bytes::from(a.clone());
-    row!("read varints", VARINTS, ours::read(black_box(&a)), theirs::read(black_box(packet.clone())));
+    row!(format!("read varints{many}"), count, ours::read(black_box(&a)), theirs::read(black_box(packet.clone())));
     let frames = frames(&numbers);
     let packet = Bytes::from(frames.clone());
     row!(
-        "read heads of STREAM frames",
-        VARINTS / 2,
+        format!("read heads of STREAM frames{many}"),
+        count / 2,
         ours::heads(black_box(&frames)),
         theirs::heads(black_box(packet.clone()))
     );
