@@ -1,7 +1,7 @@
 # Tells find_package whether a request is met, by the rule of CMake's SameMajorVersion: a version has to have the major
 # number 0, and may be no later than this one. A range has to contain this version, and both of its ends have to
 # have that major number, where the upper end may be an excluded 1.
-set(PACKAGE_VERSION 0.3.7)
+set(PACKAGE_VERSION 0.3.7.3)
 set(PACKAGE_VERSION_COMPATIBLE FALSE)
 set(PACKAGE_VERSION_EXACT FALSE)
 if(PACKAGE_FIND_VERSION_MAJOR EQUAL 0 AND NOT PACKAGE_FIND_VERSION VERSION_GREATER PACKAGE_VERSION)

@@ -150,8 +150,9 @@ static void starts(void) {
 
 int main(void) {
     texts();
-    char release[36];
-    snprintf(release, sizeof release, "%d.%d.%d", OCTETS_VERSION / 10000, OCTETS_VERSION / 100 % 100, OCTETS_VERSION % 100);
+    char release[48];
+    snprintf(release, sizeof release, "%d.%d.%d+%d", OCTETS_VERSION / 1000000, OCTETS_VERSION / 10000 % 100,
+        OCTETS_VERSION / 100 % 100, OCTETS_VERSION % 100);
     check("the version", octets_version() == OCTETS_VERSION && strcmp(OCTETS_RELEASE, release) == 0);
     check("a pointer to no bytes", OCTETS_SIZE(2.5) == 2 && OCTETS_NO_BYTES != NULL);
     bounds();

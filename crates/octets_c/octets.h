@@ -69,12 +69,17 @@
  * octets_get_varint_shortest, octets_put_bytes_with_varint_length, octets_huffman_text_len, octets_next_piece,
  * octets_get_string, octets_put_string, octets_version, octets_status_text and octets_status_name.
  * octets_get_huffman_decoded is the counterpart of get_huffman_decoded and of
- * get_huffman_decoded_with_max_length. OCTETS_VERSION is the version of this header as a number, 10000 * major +
- * 100 * minor + patch: 307 is 0.3.7. octets_version() returns that of the linked library. Every release that has
- * the API of one version of octets has the same number. */
-#define OCTETS_VERSION 307
-/** The version of this header as text. */
-#define OCTETS_RELEASE "0.3.7"
+ * get_huffman_decoded_with_max_length.
+ *
+ * OCTETS_VERSION is the version of this header as a number, and octets_version() returns that of the linked library:
+ * 1000000 * major + 10000 * minor + 100 * patch + release. The first three numbers are the version of octets. Each
+ * release has a greater number of its own, also if it only adds a call, so that `#if OCTETS_VERSION >= 30703` asks
+ * for the calls that release 3 added: octets_get_bytes_u64, octets_varint_len, octets_put_bytes_with_varint_length
+ * and octets_status_name. Before release 3 the number was 307. */
+#define OCTETS_VERSION 30703
+/** The version of this header as text. pkg-config and meson compare it in this form, and CMake with a period in
+ * place of the plus sign. */
+#define OCTETS_RELEASE "0.3.7+3"
 /** In a package, the commit of the sources. */
 #define OCTETS_COMMIT "unknown"
 /** In a package, the Rattle kit whose compiler built the libraries in its folder lib. Installed beside a library
@@ -209,7 +214,7 @@ const char *octets_status_name(octets_status status);
 
 /* The exports. tools/erase writes what follows from their doc comments. */
 
-/** octets_version: returns the version of the linked library as a number.
+/** octets_version: returns the version of the linked library as a number: 30703 is 0.3.7+3.
  * Returns OCTETS_VERSION if the linked library has the version of this header. */
 uint32_t octets_version(void);
 

@@ -180,7 +180,7 @@ readme = "README.md"
 {license}
 
 [dependencies]
-{package} = {{ path = "..", version = "{version}", default-features = false }}
+{package} = {{ path = "..", version = "{required}", default-features = false }}
 rattle_c = {{ {rattle_c} }}
 {features}
 [lib]
@@ -229,7 +229,7 @@ def package(crate, rattle_c, license_line):
     narrow = "" if crate.settings.get("usize_of_32_bits") else (
         "\n[features]\n# Says that you have checked every bound of the crate for a `usize` with 32 bits.\n"
         f'usize_of_32_bits = ["{crate.package}/usize_of_32_bits"]\n')
-    words = {"name": crate.name, "version": version, "package": crate.package, "rattle_c": rattle_c, "license": license_line,
+    words = {"name": crate.name, "version": version, "required": version.partition("+")[0], "package": crate.package, "rattle_c": rattle_c, "license": license_line,
              "features": narrow, "rust_version": crate.rust_version}
     return {"c/Cargo.toml": MANIFEST.format(**words), "c/src/lib.rs": ROOT.format(**words), "c/src/exports.rs": text,
             f"c/include/{crate.name}.h": header(crate, exports, structures), "c/README.md": README.format(**words)}

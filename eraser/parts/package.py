@@ -71,7 +71,8 @@ def dependencies(crate, places):
     def line(name, package, more=""):
         where, version = places[name]
         named = f'package = "{package}", ' if package != name else ""
-        return f'{name} = {{ {named}{where}, version = "{version}"{more} }}'
+        # Cargo ignores what follows a plus sign in a requirement.
+        return f'{name} = {{ {named}{where}, version = "{version.partition("+")[0]}"{more} }}'
 
     features = "" if crate.settings.get("small_std") else ', features = ["full"]'
     lines = ["[dependencies]", line("rattle_host", "rattle_host") if crate.needs_host else line("rattle_std", "rattle_std", features)]

@@ -69,7 +69,7 @@ macro_rules! both {
 
         /// Returns the bytes that remain, from the offset on.
         impl AsRef<[u8]> for $cursor<'_> {
-            #[inline]
+            #[inline(always)]
             fn as_ref(&self) -> &[u8] {
                 self.0.as_ref()
             }

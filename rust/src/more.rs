@@ -30,7 +30,7 @@ pub use rattle_std::alloc::AllocError;
 
 /// The number of this release, which CHANGELOG.md describes. The version in Cargo.toml is that of the crate `octets` whose
 /// API this crate has, so that Cargo accepts it as a replacement.
-pub const RELEASE: u32 = 2;
+pub const RELEASE: u32 = 3;
 
 impl Octets<'_> {
     /// Decodes as [`get_huffman_decoded`](Self::get_huffman_decoded) does, but returns an error if the allocation fails.
