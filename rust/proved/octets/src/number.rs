@@ -11,13 +11,12 @@ use crate::error::{BufferTooShortError, Result};
 /// - `from ≤ length bytes.now`
 #[inline(always)]
 fn chunk<const N: usize>(bytes: &[u8], from: usize) -> Result<&[u8; N]> {
-    // `from` is never past the end, but rustc can't know that. After this comparison it leaves out
-    // the bounds checks below.
-    if from > bytes.len() || bytes.len() - from < N {
-        return Err(BufferTooShortError);
-    }
-    match bytes[from..].first_chunk::<N>() {
-        Some(found) => Ok(found),
+    // `from` is never past the end, but rustc can't know that: an index would panic there.
+    match bytes.get(from..) {
+        Some(rest) => match rest.first_chunk::<N>() {
+            Some(found) => Ok(found),
+            None => Err(BufferTooShortError),
+        },
         None => Err(BufferTooShortError),
     }
 }
