@@ -97,8 +97,7 @@
 //! - this crate's methods, which call the verified functions, and are generated where the signature is the same; and `to_vec`,
 //!   which copies what the verified `as_ref` lends by `to_vec` of Rust's slices;
 //! - the comparison in [`varint_len`] and [`OctetsMut::put_varint`] that panics if no varint holds the number;
-//! - what [`OctetsMut::put_varint_with_len`] does with a number that doesn't fit the width (`src/unfit.rs`);
-//! - the end of the program if an allocation fails (`src/memory.rs`);
+//! - what [`OctetsMut::put_varint_with_len`] does with a width that no varint has (`src/unfit.rs`);
 //! - the crate `rattle_std`, which has vectors whose allocations return an error.
 //!
 //! # Targets
@@ -114,8 +113,6 @@ extern crate alloc;
 // rustdoc shows the methods of a cursor in the order of these modules.
 mod forwards;
 mod cursors;
-#[cfg(feature = "huffman_hpack")]
-mod memory;
 #[cfg(feature = "more")]
 pub mod more;
 mod unfit;

@@ -1,9 +1,7 @@
 //! The decodes of the cursor for reading, which the feature `huffman_hpack` adds.
 use super::Octets;
-use crate::{Result, memory};
+use crate::{BufferTooShortError, Result};
 use alloc::vec::Vec;
-use octets_verified::DecodeError;
-use rattle_std::alloc::Global;
 
 impl Octets<'_> {
     /// Decodes all bytes that remain, from the offset on, as one Huffman-encoded string (RFC 7541, section 5.2), and
@@ -34,11 +32,14 @@ impl Octets<'_> {
     /// assert!(cursor.get_huffman_decoded_with_max_length(2).is_err());
     /// ```
     #[inline]
+    #[expect(clippy::slow_vector_initialization, reason = "`calloc`, which `vec![0; room]` calls, takes longer for few bytes")]
     pub fn get_huffman_decoded_with_max_length(&mut self, max_len: usize) -> Result<Vec<u8>> {
-        match self.0.get_huffman_decoded_with_max_length(Global, max_len) {
-            Ok(value) => Ok(value.into()),
-            Err(DecodeError::Short(short)) => Err(short),
-            Err(DecodeError::Memory(_)) => memory::exhausted(self.cap().saturating_mul(2).min(max_len)),
-        }
+        // A code has at least five bits, so no value has more than two bytes for each byte of its encoding.
+        let room = self.cap().saturating_mul(2).min(max_len);
+        let mut value = Vec::with_capacity(room);
+        value.resize(room, 0);
+        let len = self.0.get_huffman_decoded_into(&mut value).map_err(|_| BufferTooShortError)?;
+        value.truncate(len);
+        Ok(value)
     }
 }

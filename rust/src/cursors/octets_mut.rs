@@ -1,7 +1,6 @@
 //! The methods of the cursor for writing whose signature is another one than that of the verified method.
 use super::OctetsMut;
 use crate::{BufferTooShortError, OctetsWriter, Result, unfit};
-use octets_verified as proved;
 
 impl<'a> OctetsMut<'a> {
     /// Returns a mutable slice of the next `len` bytes. The slice lives as long as the borrow of the buffer.
@@ -77,8 +76,8 @@ impl<'a> OctetsMut<'a> {
     ///
     /// It fails if fewer than `len` bytes remain. Then nothing is written, and the offset is unchanged.
     ///
-    /// If a varint of `len` bytes can't hold `v`, the encoded value is wrong: hand-written code writes the least significant
-    /// `len` bytes of `v`, and sets the bits of the width in the first of them. `octets` 0.3.7 does the same.
+    /// If a varint of `len` bytes can't hold `v`, the encoded value is wrong: the call writes the least significant `len`
+    /// bytes of `v`, and sets the bits of the width in the first of them. `octets` 0.3.7 does the same.
     ///
     /// # Panics
     ///
@@ -93,10 +92,10 @@ impl<'a> OctetsMut<'a> {
     /// ```
     #[inline]
     pub fn put_varint_with_len(&mut self, v: u64, len: usize) -> Result<&mut [u8]> {
-        if proved::varint_fits(v, len) {
-            return self.0.put_varint_with_len(v, len);
+        if !matches!(len, 1 | 2 | 4 | 8) {
+            unfit::refuse_width(len, self.0.cap())?;
         }
-        unfit::put_low_bytes(&mut self.0, v, len)
+        self.0.put_marked(v, len)
     }
 }
 

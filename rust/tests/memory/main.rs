@@ -1,9 +1,6 @@
 //! Tests of calls whose allocation fails: the program ends, as it does if a vector of Rust's std can't grow.
 extern crate alloc;
 
-/// The code that the crate calls after an allocation failed.
-#[path = "../../src/memory.rs"]
-mod ending;
 #[cfg(feature = "more")]
 mod more;
 mod refusing;
@@ -106,13 +103,6 @@ fn no_memory_for_a_huge_copy() {
     let bytes = huge_zeros().expect("the memory");
     let (bytes, _) = failing_after(0, || Octets::with_slice(&bytes).to_vec());
     println!("went on with {bytes:?}");
-}
-
-/// No slice has as many bytes as no allocation can have, so this calls the crate's function.
-#[test]
-#[should_panic(expected = "capacity overflow")]
-fn no_allocation_has_more_than_half_of_memory() {
-    ending::exhausted(isize::MAX as usize + 1)
 }
 
 #[test]
