@@ -74,7 +74,7 @@ pub(crate) fn copy_few(to: &mut [u8], from: &[u8])
 }
 
 /// Copies all of `from` over `to`, which has the same length.
-#[inline]
+#[inline(always)]
 pub(crate) fn copy(to: &mut [u8], from: &[u8])
     requires { length to.old ≡ length from.now }
     ensures { to.new ≡ from.now }

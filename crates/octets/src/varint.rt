@@ -73,6 +73,7 @@ pub const fn varint_parse_len(first: u8) -> usize
 }
 
 /// Returns the width and the value of the varint at the position `from`.
+#[inline(always)]
 #[tactic(auto, unfolding(crate::specs::Varints::BeginsVarint))]
 pub(crate) fn read_varint(bytes: &[u8], from: usize) -> Result<(usize, u64)>
     requires { from ≤ length bytes.now }

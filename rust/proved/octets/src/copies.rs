@@ -84,7 +84,7 @@ pub(crate) fn copy_few(to: &mut [u8], from: &[u8]) {
 /// # Requires
 ///
 /// - `length to.old ≡ length from.now`
-#[inline]
+#[inline(always)]
 pub(crate) fn copy(to: &mut [u8], from: &[u8]) {
     // This slice tells rustc that both lengths are equal, so that it leaves out the bounds checks
     // below.

@@ -73,7 +73,7 @@ pub const fn varint_parse_len(first: u8) -> usize {
 /// # Requires
 ///
 /// - `from ≤ length bytes.now`
-#[inline]
+#[inline(always)]
 pub(crate) fn read_varint(bytes: &[u8], from: usize) -> Result<(usize, u64)> {
     let first = read_u8(bytes, from)?;
     if first < 64 {
