@@ -176,7 +176,7 @@ def write(packages, only_check):
 
 def is_ours(path, folder):
     """Whether a file is one that cargo doesn't write: cargo may read every other one, such as `build.rs` or `.cargo/config.toml`."""
-    return "target" not in path.relative_to(folder).parts and path.name != "Cargo.lock"
+    return not {folder / "target", folder / "c/target"} & {*path.parents} and path.name != "Cargo.lock"
 
 
 def same(text, data, only_check):

@@ -98,6 +98,7 @@
 //!   which copies what the verified `as_ref` lends by `to_vec` of Rust's slices;
 //! - the comparison in [`varint_len`] and [`OctetsMut::put_varint`] that panics if no varint holds the number;
 //! - what [`OctetsMut::put_varint_with_len`] does with a width that no varint has (`src/unfit.rs`);
+//! - the vector of zeros into which a Huffman decode writes, and its end (`src/cursors/octets.rs`);
 //! - the crate `rattle_std`, which has vectors whose allocations return an error.
 //!
 //! # Targets
