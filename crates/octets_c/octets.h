@@ -256,7 +256,7 @@ octets_status octets_get_varint_shortest(const uint8_t *bytes, size_t bytes_len,
     size_t *OCTETS_RESTRICT off, uint64_t *OCTETS_RESTRICT value);
 
 /** octets_varint_len: returns the smallest width of a varint that holds value: 1, 2, 4 or 8 bytes; or 0 if value
- * is above 4611686018427387903 (2^62 - 1). */
+ * is above OCTETS_VARINT_MAX. */
 size_t octets_varint_len(uint64_t value);
 
 /** octets_skip: moves the offset past len bytes.
@@ -329,8 +329,8 @@ octets_status octets_put_u64(uint8_t *OCTETS_RESTRICT bytes, size_t bytes_len,
     size_t *OCTETS_RESTRICT off, uint64_t value);
 
 /** octets_put_varint: writes value as a varint of the smallest width that holds it.
- * Returns OCTETS_UNFIT if value is above 4611686018427387903 (2^62 - 1); otherwise OCTETS_SHORT if fewer bytes
- * remain than the varint has; otherwise OCTETS_DONE. */
+ * Returns OCTETS_UNFIT if value is above OCTETS_VARINT_MAX; otherwise OCTETS_SHORT if fewer bytes remain than
+ * the varint has; otherwise OCTETS_DONE. */
 OCTETS_CHECKED(3)
 octets_status octets_put_varint(uint8_t *OCTETS_RESTRICT bytes, size_t bytes_len,
     size_t *OCTETS_RESTRICT off, uint64_t value);
@@ -344,8 +344,8 @@ octets_status octets_put_varint_with_len(uint8_t *OCTETS_RESTRICT bytes, size_t 
 
 /** octets_put_bytes_with_varint_length: writes value_len as a varint of the smallest width that holds it, and
  * then all bytes of value.
- * Returns OCTETS_LONG if value_len is above 4611686018427387903 (2^62 - 1); otherwise OCTETS_SHORT if fewer
- * bytes remain than the varint and value have together; otherwise OCTETS_DONE. */
+ * Returns OCTETS_LONG if value_len is above OCTETS_VARINT_MAX; otherwise OCTETS_SHORT if fewer bytes remain than
+ * the varint and value have together; otherwise OCTETS_DONE. */
 OCTETS_CHECKED(3)
 octets_status octets_put_bytes_with_varint_length(uint8_t *OCTETS_RESTRICT bytes, size_t bytes_len,
     size_t *OCTETS_RESTRICT off, const uint8_t *value, size_t value_len);
@@ -415,7 +415,7 @@ octets_status octets_next_piece(const uint8_t *value, size_t value_len, bool low
  * the length of the value. The other bytes of out are unchanged, and the offset moves past the literal. An
  * out_len of OCTETS_VALUE_MOST(bytes_len - *off) always suffices.
  * Returns the first of these that applies:
- * - OCTETS_LONG if the length is encoded in more than six bytes, or is greater than 4294967295;
+ * - OCTETS_LONG if the length is encoded in more than six bytes, or is greater than OCTETS_LITERAL_MAX;
  * - OCTETS_SHORT if the buffer ends before the length does, or fewer bytes follow the length than it says;
  * - OCTETS_NO_ROOM or OCTETS_NOT_TEXT for the first error in the value, as from octets_get_huffman_decoded;
  * - OCTETS_DONE.
@@ -430,8 +430,8 @@ octets_status octets_get_string(const uint8_t *bytes, size_t bytes_len, size_t *
  * encoding of value if that is shorter than value, or else value itself. If lower_case is true, A to Z are
  * written as a to z, in both forms. The buffer must be initialized (see above). OCTETS_LITERAL_MOST(value_len)
  * bytes always suffice.
- * Returns OCTETS_LONG if value_len exceeds 4294967295; otherwise OCTETS_SHORT if fewer bytes remain than the
- * literal has; otherwise OCTETS_DONE. */
+ * Returns OCTETS_LONG if value_len exceeds OCTETS_LITERAL_MAX; otherwise OCTETS_SHORT if fewer bytes remain than
+ * the literal has; otherwise OCTETS_DONE. */
 OCTETS_CHECKED(3)
 octets_status octets_put_string(uint8_t *OCTETS_RESTRICT bytes, size_t bytes_len,
     size_t *OCTETS_RESTRICT off, const uint8_t *value, size_t value_len, bool lower_case);

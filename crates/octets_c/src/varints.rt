@@ -69,7 +69,7 @@ pub extern "C" fn octets_get_varint_shortest(bytes: &[u8], off: &mut usize, valu
 }
 
 /// Returns the smallest width of a varint that holds value: 1, 2, 4 or 8 bytes; or 0 if value is
-/// above 4611686018427387903 (2^62 - 1).
+/// above OCTETS_VARINT_MAX.
 #[unsafe(no_mangle)]
 pub extern "C" fn octets_varint_len(value: u64) -> usize
     ensures shortest { value < 2 ^ 62 → result ≡ shortest value }

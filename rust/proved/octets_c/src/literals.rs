@@ -34,7 +34,8 @@ fn fault_written(fault: ValueError, room: usize) -> usize {
 ///
 /// Returns the first of these that applies:
 ///
-/// - OCTETS_LONG if the length is encoded in more than six bytes, or is greater than 4294967295;
+/// - OCTETS_LONG if the length is encoded in more than six bytes, or is greater than
+/// OCTETS_LITERAL_MAX;
 ///
 /// - OCTETS_SHORT if the buffer ends before the length does, or fewer bytes follow the length than
 /// it says;
@@ -98,8 +99,8 @@ fn put_literal(cursor: &mut OctetsMut<'_>, value: &[u8], lower_case: bool) -> Re
 /// to Z are written as a to z, in both forms. The buffer must be initialized (see above).
 /// OCTETS_LITERAL_MOST(value_len) bytes always suffice.
 ///
-/// Returns OCTETS_LONG if value_len exceeds 4294967295; otherwise OCTETS_SHORT if fewer bytes
-/// remain than the literal has; otherwise OCTETS_DONE.
+/// Returns OCTETS_LONG if value_len exceeds OCTETS_LITERAL_MAX; otherwise OCTETS_SHORT if fewer
+/// bytes remain than the literal has; otherwise OCTETS_DONE.
 #[inline]
 pub fn octets_put_string(
     bytes: &mut [u8],

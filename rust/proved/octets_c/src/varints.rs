@@ -44,7 +44,7 @@ pub fn octets_get_varint_shortest(bytes: &[u8], off: &mut usize, value: &mut u64
 }
 
 /// Returns the smallest width of a varint that holds value: 1, 2, 4 or 8 bytes; or 0 if value is
-/// above 4611686018427387903 (2^62 - 1).
+/// above OCTETS_VARINT_MAX.
 #[inline]
 pub fn octets_varint_len(value: u64) -> usize {
     if value > MAX_VAR_INT {

@@ -55,8 +55,8 @@ pub fn octets_put_u64(bytes: &mut [u8], off: &mut usize, value: u64) -> u8 {
 
 /// Writes value as a varint of the smallest width that holds it.
 ///
-/// Returns OCTETS_UNFIT if value is above 4611686018427387903 (2^62 - 1); otherwise OCTETS_SHORT if
-/// fewer bytes remain than the varint has; otherwise OCTETS_DONE.
+/// Returns OCTETS_UNFIT if value is above OCTETS_VARINT_MAX; otherwise OCTETS_SHORT if fewer bytes
+/// remain than the varint has; otherwise OCTETS_DONE.
 #[inline]
 pub fn octets_put_varint(bytes: &mut [u8], off: &mut usize, value: u64) -> u8 {
     if value > MAX_VAR_INT {
@@ -110,8 +110,8 @@ fn put_prefixed(cursor: &mut OctetsMut<'_>, value: &[u8]) -> Result<()> {
 
 /// Writes value_len as a varint of the smallest width that holds it, and then all bytes of value.
 ///
-/// Returns OCTETS_LONG if value_len is above 4611686018427387903 (2^62 - 1); otherwise OCTETS_SHORT
-/// if fewer bytes remain than the varint and value have together; otherwise OCTETS_DONE.
+/// Returns OCTETS_LONG if value_len is above OCTETS_VARINT_MAX; otherwise OCTETS_SHORT if fewer bytes
+/// remain than the varint and value have together; otherwise OCTETS_DONE.
 #[inline]
 pub fn octets_put_bytes_with_varint_length(
     bytes: &mut [u8],

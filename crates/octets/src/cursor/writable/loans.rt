@@ -381,6 +381,7 @@ impl<'a> OctetsMut<'a> {
         ensures* writes_back { sem 𝓛 (LendsPut self.entry (network len (marked len v)) len result) }
         ensures fits { IsOk result ↔ (len ≤ length (rest self.old)) }
         ensures shows { IfOk result (λ r. r.now ≡ network len (marked len v)) }
+    // The proof is hand-written, so any edit of the body breaks it: see CONTRIBUTING.md.
     {
         let part = self.part_of_marked(v, len);
         self.lend_part(part)

@@ -342,7 +342,8 @@ impl<'a> OctetsMut<'a> {
     /// - `IsWidth len`
     #[inline(always)]
     #[cfg_attr(feature = "checked", track_caller)]
-    pub fn put_marked(&mut self, v: u64, len: usize) -> Result<&mut [u8]> {
+    pub fn put_marked(&mut self, v: u64, len: usize) -> Result<&mut [u8]>// The proof is hand-written, so any edit of the body breaks it: see CONTRIBUTING.md.
+    {
         #[cfg(feature = "checked")]
         ::core::assert!(matches!(len, 1 | 2 | 4 | 8), "`put_marked` requires `IsWidth len`");
         let part = self.part_of_marked(v, len);
