@@ -1,7 +1,7 @@
 #!/usr/bin/env python3
-"""Writes each file of crates/octets_code/src/tables/. The 257 codes of RFC 7541, Appendix B, come from
-crates/octets_code/specs/Table.antt. This program needn't be trusted: the proofs of octets_code compare each
-number of the tables with the codes.
+"""Writes each file of the folder src/tables of octets_code and of octets_pieces. The 257 codes of RFC 7541,
+Appendix B, come from crates/octets_code/specs/Table.antt. This program needn't be trusted: the proofs of both
+crates compare each number of the tables with the codes.
 
 usage: tools/tables.py [--check]
 
@@ -14,8 +14,7 @@ import re
 import sys
 import textwrap
 
-CRATE = pathlib.Path(__file__).resolve().parent.parent / "crates/octets_code"
-TABLES = CRATE / "src/tables"
+CRATES = pathlib.Path(__file__).resolve().parent.parent / "crates"
 END = 256
 # How many bits index the lookup table of complete codes.
 LOOK = 12
@@ -25,7 +24,7 @@ def read_codes():
     """The codes of the symbols 0 to 256, in order, each as a string of 0 and 1."""
     group = r"len = (\d+);\s+first = (0x[0-9a-f]+);\s+symbols = ([\d\s∷]+)\[\]"
     codes = {}
-    for length, first, symbols in re.findall(group, (CRATE / "specs/Table.antt").read_text("utf-8")):
+    for length, first, symbols in re.findall(group, (CRATES / "octets_code/specs/Table.antt").read_text("utf-8")):
         for at, symbol in enumerate(re.findall(r"\d+", symbols)):
             codes[int(symbol)] = f"{int(first, 16) + at:0{int(length)}b}"
     assert sorted(codes) == list(range(END + 1))
@@ -41,20 +40,20 @@ def read_states(codes):
 
 
 def moves(codes, states, count):
-    """The moves of each state over each `count` bits."""
+    """The moves of each state over each `count` bits: the number of the next state, and the symbol whose code was
+    completed, or None. After the end code there is no next state."""
     symbols = {code: symbol for symbol, code in enumerate(codes)}
     numbers = {prefix: number for number, prefix in enumerate(states)}
 
     def move(prefix, bits):
-        byte = None
+        symbol = None
         for bit in bits:
             prefix += bit
             if symbols.get(prefix) == END:
-                return "End"
+                return None, END
             if prefix in symbols:
-                prefix, byte = "", symbols[prefix]
-        number = numbers[prefix]
-        return f"On({number})" if byte is None else f"Byte({number}, {byte})"
+                prefix, symbol = "", symbols[prefix]
+        return numbers[prefix], symbol
 
     return [[move(prefix, f"{bits:0{count}b}") for bits in range(1 << count)] for prefix in states]
 
@@ -111,8 +110,18 @@ def long_rows(rows):
             yield line.replace("~", " ")
 
 
+def spelled(number, symbol):
+    """A move as a value of the enum `Move`."""
+    return "End" if symbol == END else f"On({number})" if symbol is None else f"Byte({number}, {symbol})"
+
+
+def packed(number, symbol):
+    """A move as one number."""
+    return 3 << 16 if symbol == END else number if symbol is None else 1 << 16 | symbol << 8 | number
+
+
 def moves_table(what, name, codes, states, count, lines):
-    table = moves(codes, states, count)
+    table = [[spelled(*move) for move in row] for row in moves(codes, states, count)]
     used = sorted({it.split("(")[0] for entries in table for it in entries})
     doc = f"The moves of each state, by its number, over {what}."
     rows = [f"[{', '.join(entries)}]" for entries in table]
@@ -120,7 +129,7 @@ def moves_table(what, name, codes, states, count, lines):
 
 
 def files():
-    """The lines of each file, by its name."""
+    """The lines of each file, by its path."""
     codes = read_codes()
     states = read_states(codes)
     cuts, pairs = looks(codes)
@@ -141,32 +150,40 @@ def files():
         "follows: 32 times the symbol whose code begins so, plus the length of its code. Thirty one bits",
         "are the end code.",
     ]
+    doc_of_halves = [
+        "The moves of each state over the half bytes 0 to 15, state by state: the number of the next",
+        "state, plus 256 times the byte that was completed, plus 65,536 if one was. An entry of 196,608",
+        "is the end code.",
+    ]
+    halves = [packed(*move) for row in moves(codes, states, 4) for move in row]
     fronts = [0] + [states.index(f"{at:b}"[1:]) for at in range(1, 16)]
     return {
-        "codes": ["use crate::entries::Code;", "", *static(doc_of_codes, "CODES", "[Code; 257]", entries)],
-        "lengths": static(doc_of_lengths, "CODE_LENGTHS", "[u32; 256]", numbers([len(code) for code in codes[:END]], 16)),
-        "bit_moves": moves_table("the bits 0 and 1", "BIT_MOVES", codes, states, 1, lambda rows: numbers(rows, 2)),
-        "nibble_moves": moves_table("the half bytes 0 to 15", "NIBBLE_MOVES", codes, states, 4, long_rows),
-        "fronts": static(doc_of_fronts, "FRONTS", "[u8; 16]", numbers(fronts, 8)),
-        "looks": [
+        "octets_code/src/tables/codes.rt": ["use crate::entries::Code;", "", *static(doc_of_codes, "CODES", "[Code; 257]", entries)],
+        "octets_code/src/tables/lengths.rt": static(doc_of_lengths, "CODE_LENGTHS", "[u32; 256]", numbers([len(code) for code in codes[:END]], 16)),
+        "octets_code/src/tables/bit_moves.rt": moves_table("the bits 0 and 1", "BIT_MOVES", codes, states, 1, lambda rows: numbers(rows, 2)),
+        "octets_code/src/tables/nibble_moves.rt": moves_table("the half bytes 0 to 15", "NIBBLE_MOVES", codes, states, 4, long_rows),
+        "octets_code/src/tables/fronts.rt": static(doc_of_fronts, "FRONTS", "[u8; 16]", numbers(fronts, 8)),
+        "octets_code/src/tables/looks.rt": [
             *static(doc_of_cuts, "CUTS", "[u8; 4096]", numbers(cuts, 16)),
             "",
             *static(doc_of_pairs, "PAIRS", "[u16; 4096]", numbers(pairs, 8)),
         ],
-        "symbols": static(doc_of_symbols, "SYMBOLS", "[u16; 992]", numbers(symbols_by_ones(codes), 8)),
+        "octets_code/src/tables/symbols.rt": static(doc_of_symbols, "SYMBOLS", "[u16; 992]", numbers(symbols_by_ones(codes), 8)),
+        "octets_pieces/src/tables/halves.rt": static(doc_of_halves, "HALVES", "[u32; 4096]", numbers(halves, 8)),
     }
 
 
 def main():
-    written = {f"{name}.rt": "\n".join(["// Written by tools/tables.py.", "", *lines, ""]) for name, lines in files().items()}
+    written = {path: "\n".join(["// Written by tools/tables.py.", "", *lines, ""]) for path, lines in files().items()}
     if sys.argv[1:] != ["--check"]:
-        for name, text in written.items():
-            (TABLES / name).write_text(text, "utf-8")
+        for path, text in written.items():
+            (CRATES / path).write_text(text, "utf-8")
         return 0
-    present = {path.name: path.read_text("utf-8") for path in TABLES.glob("*")}
-    other = sorted(name for name in present.keys() | written.keys() if present.get(name) != written.get(name))
-    for name in other:
-        print(f"src/tables/{name} differs from what tools/tables.py writes")
+    folders = {(CRATES / path).parent for path in written}
+    present = {str(path.relative_to(CRATES)): path.read_text("utf-8") for folder in folders for path in folder.glob("*")}
+    other = sorted(path for path in present.keys() | written.keys() if present.get(path) != written.get(path))
+    for path in other:
+        print(f"crates/{path} differs from what tools/tables.py writes")
     print(f"{len(written.keys() - set(other))} passed, {len(other)} failed")
     return 1 if other else 0
 

@@ -10,7 +10,7 @@ from typing import NamedTuple
 
 TOP = pathlib.Path(__file__).resolve().parents[2]
 # The crates that have the page.
-CRATES = ("octets_code", "octets", "octets_literal", "octets_script", "octets_c")
+CRATES = ("octets_code", "octets", "octets_literal", "octets_pieces", "octets_script", "octets_c")
 # So many clauses `ensures` may share their words.
 MOST = 8
 HEAD = """# Contracts of `{0}`

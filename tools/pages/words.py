@@ -7,7 +7,7 @@ import pathlib
 import re
 
 TOP = pathlib.Path(__file__).resolve().parents[2]
-CRATES = ("octets_code", "octets", "octets_literal", "octets_script", "octets_c")
+CRATES = ("octets_code", "octets", "octets_literal", "octets_pieces", "octets_script", "octets_c")
 HEAD = """# Words
 
 This page is for you if you read or write contracts. It lists the definitions in `specs/` of the crates that callers use, each with the comment above it, and the lemmas [for callers](#lemmas-for-callers). (A definition without a comment isn't listed; there are four.) `tools/pages/make` writes this page. [DEFINITIONS.md](DEFINITIONS.md) explains the terms of the promise.

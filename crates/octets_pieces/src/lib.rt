@@ -1,0 +1,17 @@
+//! A Huffman decode (RFC 7541, section 5.2) of an encoding that comes in pieces, as a socket gives
+//! them. It allocates nothing, and keeps at most 29 bits between two pieces.
+#![tactic(auto)]
+
+mod byte_step;
+mod decoder;
+mod error;
+mod joined;
+pub mod laws;
+mod tables;
+
+pub use decoder::{Decoder, Progress};
+pub use error::{EosError, IncompleteError, PiecesError};
+pub use joined::{decode_pieces, decode_whole};
+
+#[cfg(test)]
+mod tests;
