@@ -90,7 +90,7 @@
 //! `to_vec`. A proof shows that this function meets its contract for all buffers and all arguments. The contract says when
 //! the function succeeds and when it returns which error, what it returns, where the offset is afterwards, which bytes it
 //! writes, and what it leaves unchanged. In the repository, the page `crates/octets/CONTRACTS.md` lists the contracts, and
-//! `crates/octets_literal/CONTRACTS.md` those of the string literals of the feature `more`.
+//! `crates/octets_literal/CONTRACTS.md` and `crates/octets_pieces/CONTRACTS.md` those of the feature `more`.
 //!
 //! The unverified part is small and covered by tests:
 //!

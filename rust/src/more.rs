@@ -1,7 +1,7 @@
 //! The feature `more` adds what the verified library has and `octets` 0.3.7 lacks: calls that return an error if an
-//! allocation fails, decoding into a slice, a reader that accepts varints of the shortest width only, string literals of
-//! HPACK (RFC 7541, section 5.2), and an [`OctetsWriter`] that grows. String literals of QPACK with a length prefix of
-//! other than seven bits aren't covered.
+//! allocation fails, decoding into a slice, decoding of an encoding that comes in pieces, a reader that accepts varints
+//! of the shortest width only, string literals of HPACK (RFC 7541, section 5.2), and an [`OctetsWriter`] that grows.
+//! String literals of QPACK with a length prefix of other than seven bits aren't covered.
 //!
 //! This program writes the string literals of a header block to a vector, and reads them:
 //!
@@ -15,6 +15,28 @@
 //! assert_eq!(strings.unwrap(), [&b"content-type"[..], b"text/html"]);
 //! # Ok::<(), more::AllocError>(())
 //! ```
+//!
+//! # An encoding that comes in pieces
+//!
+//! A [`Decoder`] decodes a Huffman-encoded string (RFC 7541, section 5.2) as it arrives. It has one byte, which you keep
+//! between two pieces, and allocates nothing. However the string is cut, the value is that of one decode:
+//!
+//! ```
+//! use octets::more::Decoder;
+//!
+//! let (mut decoder, mut value, mut len) = (Decoder::new(), [0; 16], 0);
+//! for piece in [&b"\xf1\xe3\xc2"[..], b"\xe5\xf2\x3a\x6b\xa0", b"\xab\x90\xf4\xff"] {
+//!     let progress = decoder.decode(piece, &mut value[len..])?;
+//!     assert_eq!(progress.read, piece.len(), "the value has more than 16 bytes");
+//!     len += progress.written;
+//! }
+//! decoder.finish()?;
+//! assert_eq!(value[..len], *b"www.example.com");
+//! # Ok::<(), Box<dyn std::error::Error>>(())
+//! ```
+//!
+//! If `decode` reads less than the piece, call it again with the rest, and with space for two bytes. [`decode_pieces`]
+//! decodes all pieces in one call.
 use crate::writer::Sink;
 use crate::{Octets, OctetsMut, OctetsWriter};
 use alloc::vec::Vec;
@@ -24,6 +46,7 @@ use rattle_std::alloc::Global;
 
 pub use octets_code::Steps;
 pub use octets_literal::{LiteralError, MAX_LITERAL_LEN};
+pub use octets_pieces::{Decoder, EosError, IncompleteError, PiecesError, Progress, decode_pieces};
 pub use octets_verified as verified;
 pub use octets_verified::{DecodeError, IntoError, VarintError, huffman_text_len, varint_fits};
 pub use rattle_std::alloc::AllocError;
