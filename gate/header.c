@@ -8,7 +8,7 @@
 #define HOLDS(what) static_assert(what, #what)
 template <typename A, typename B> struct same { enum { holds = 0 }; };
 template <typename A> struct same<A, A> { enum { holds = 1 }; };
-#define IS_OF(what, type) HOLDS((same<decltype(what + (type)0), type>::holds && sizeof(what) == sizeof(type)))
+#define IS_OF(what, type) HOLDS((same<decltype(what), type>::holds && sizeof(what) == sizeof(type)))
 HOLDS(__is_enum(octets_status));
 #else
 #define HOLDS(what) _Static_assert(what, #what)

@@ -339,6 +339,43 @@ static void streams(void) {
     CHECK(octets_next_piece(value, 13, false, &place, &piece, &len) == OCTETS_DONE && len == 0);
 }
 
+/* The encoding of "www.example.com" (RFC 7541, appendix C.4.1) arrives in two pieces. */
+static void arrives(void) {
+    const uint8_t text[] = {0xf1, 0xe3, 0xc2, 0xe5, 0xf2, 0x3a, 0x6b, 0xa0, 0xab, 0x90, 0xf4, 0xff};
+    for (size_t cut = 0; cut <= sizeof text; cut++) {
+        octets_decoder decoder = {0};
+        uint8_t out[24] = {0};
+        size_t off = 0, len = 0, all = 0;
+        CHECK(octets_decode_piece(text, cut, &off, &decoder, out, sizeof out, &len) == OCTETS_DONE && off == cut);
+        all = len;
+        octets_decoder copy = decoder;
+        CHECK(octets_decode_piece(text, sizeof text, &off, &copy, out + all, sizeof out - all, &len) == OCTETS_DONE);
+        CHECK(off == sizeof text && all + len == 15 && memcmp(out, "www.example.com", 16) == 0);
+        CHECK(octets_decode_end(&copy) == OCTETS_DONE);
+    }
+}
+
+/* Where a decode of a piece stops: for want of room, at EOS, which has 30 one bits, and at the end. */
+static void stops(void) {
+    const uint8_t digits[] = {0x00, 0x44}; /* 00000 00001 00010 are `0`, `1` and `2` */
+    const uint8_t ones[] = {0xff, 0xff, 0xff, 0xff};
+    octets_decoder decoder = {0};
+    uint8_t out[4] = {9, 9, 9, 9};
+    size_t off = 0, len = 7;
+    CHECK(octets_decode_piece(digits, 2, &off, &decoder, out, 2, &len) == OCTETS_NO_ROOM && off == 1 && len == 1);
+    CHECK(out[0] == '0' && out[1] == 9 && octets_decode_end(&decoder) == OCTETS_NOT_TEXT);
+    CHECK(octets_decode_piece(digits, 2, &off, &decoder, out + 1, 1, &len) == OCTETS_NO_ROOM && off == 1 && len == 0);
+    CHECK(octets_decode_piece(digits, 2, &off, &decoder, out + 1, 2, &len) == OCTETS_DONE && off == 2 && len == 2);
+    CHECK(memcmp(out, "012\x09", 4) == 0 && octets_decode_end(&decoder) == OCTETS_NOT_TEXT);
+    off = 3;
+    CHECK(octets_decode_piece(digits, 2, &off, &decoder, out, 4, &len) == OCTETS_SHORT && off == 3 && len == 0);
+    decoder.state = 0;
+    off = 0;
+    CHECK(octets_decode_piece(ones, 4, &off, &decoder, NULL, 0, &len) == OCTETS_NOT_TEXT && off == 3 && len == 0);
+    CHECK(octets_decode_piece(ones, 4, &off, &decoder, NULL, 0, &len) == OCTETS_NOT_TEXT && off == 3);
+    CHECK(octets_decode_end(&decoder) == OCTETS_NOT_TEXT);
+}
+
 /* Writes the Huffman encoding of a value into a buffer of OCTETS_TEXT_MOST bytes, decodes it, and
  * returns whether both calls succeeded and the value is the same. */
 static bool fits_text(const uint8_t *value, size_t value_len) {
@@ -467,6 +504,7 @@ static void no_bytes(uint8_t *none, uint8_t *value) {
     uint64_t number = 9;
     octets_run run = {9, 9};
     octets_place place = {0, 0, 0, 0};
+    octets_decoder decoder = {0};
     CHECK(octets_get_u8(none, 0, &off, &one) == OCTETS_SHORT && one == 9 && off == 0);
     CHECK(octets_get_varint(none, 0, &off, &number) == OCTETS_SHORT && number == 9);
     CHECK(octets_skip(none, 0, &off, 0) == OCTETS_DONE && off == 0);
@@ -488,6 +526,8 @@ static void no_bytes(uint8_t *none, uint8_t *value) {
     CHECK(octets_next_piece(value, 0, true, &place, &piece, &len) == OCTETS_DONE && len == 0);
     len = 9;
     CHECK(octets_get_huffman_decoded(none, 0, &off, value, 0, &len) == OCTETS_DONE && len == 0);
+    len = 9;
+    CHECK(octets_decode_piece(none, 0, &off, &decoder, value, 0, &len) == OCTETS_DONE && len == 0);
     CHECK(octets_put_string(&literal, 1, &off, value, 0, true) == OCTETS_DONE && literal == 0);
     off = 0;
     len = 9;
@@ -567,6 +607,8 @@ int main(void) {
     faults();
     pieces();
     streams();
+    arrives();
+    stops();
     rooms();
     literals();
     written_literals();

@@ -32,14 +32,15 @@
  * first read the bytes of your buffer that follow the encoding, and store them again unchanged. If these bytes
  * were never initialized, valgrind may report the end of the encoding as uninitialized too. The library that
  * cargo builds makes Rust references of the pointers. If you link it, initialize everything that a call may
- * write: each buffer, the offset, the octets_place, and each result.
+ * write: each buffer, the offset, the octets_place or octets_decoder, and each result.
  *
  * A call that fails returns a status other than OCTETS_DONE. It then has written nothing through its pointers
  * and has left the offset unchanged, except for what its comment says under `On error`. If the offset is past
  * the end of the buffer, a call returns OCTETS_SHORT and changes nothing. There are two exceptions. A put whose
  * value or width is invalid returns OCTETS_UNFIT or OCTETS_LONG instead, because it checks these first. And
- * octets_get_huffman_decoded and octets_get_string set *len to 0. Most comments below leave out the case of an
- * offset past the end. In that case a call returns OCTETS_SHORT even if it gets or puts no bytes.
+ * octets_get_huffman_decoded, octets_decode_piece and octets_get_string set *len to 0. Most comments below leave
+ * out the case of an offset past the end. In that case a call returns OCTETS_SHORT even if it gets or puts no
+ * bytes.
  *
  * A pointer that comes with a length has to point to that many objects, and any other pointer to one object.
  * Each pointer has to be aligned for the type of its object. The length of a pointer must not exceed
@@ -48,13 +49,13 @@
  * pointer may be NULL: passing NULL is undefined behavior. UBSan reports a NULL at run time.
  *
  * Memory that a call may write (the buffer of a put, the output buffer of a decode, the offset, the
- * octets_place, and each result) must not overlap any other memory that is passed to the same call. Buffers that
- * are only read may overlap each other.
+ * octets_place or octets_decoder, and each result) must not overlap any other memory that is passed to the same
+ * call. Buffers that are only read may overlap each other.
  *
  * The library is thread-safe: threads may call it at the same time, as long as no thread accesses memory that
- * another thread's call may write. This memory is the offset, the octets_place, each result, the whole buffer
- * of a put, and the whole output buffer of a decode, including bytes that the call leaves unchanged. Threads
- * may read the same bytes at the same time. */
+ * another thread's call may write. This memory is the offset, the octets_place or octets_decoder, each result,
+ * the whole buffer of a put, and the whole output buffer of a decode, including bytes that the call leaves
+ * unchanged. Threads may read the same bytes at the same time. */
 #ifndef OCTETS_H
 #define OCTETS_H
 
@@ -62,20 +63,20 @@
 #include <stddef.h>
 #include <stdint.h>
 
-/** This header has the version number of the Rust crate octets whose API it has. Most of its calls are calls of that
- * crate. These calls of that crate have no counterpart here: peek_.., rewind, slice, slice_last, split_at,
+/** This header has the version number of the Rust crate octets whose API it has. Most of its calls are calls of
+ * that crate. These calls of that crate have no counterpart here: peek_.., rewind, slice, slice_last, split_at,
  * get_bytes_mut, as_ref, as_mut, to_vec, varint_parse_len, and those that create or describe a cursor, such as
  * with_slice and cap. These calls of this header have no counterpart in that crate: octets_get_bytes_u64,
  * octets_get_varint_shortest, octets_put_bytes_with_varint_length, octets_huffman_text_len, octets_next_piece,
- * octets_get_string, octets_put_string, octets_version, octets_status_text and octets_status_name.
- * octets_get_huffman_decoded is the counterpart of get_huffman_decoded and of
+ * octets_decode_piece, octets_decode_end, octets_get_string, octets_put_string, octets_version, octets_status_text
+ * and octets_status_name. octets_get_huffman_decoded is the counterpart of get_huffman_decoded and of
  * get_huffman_decoded_with_max_length.
  *
  * OCTETS_VERSION is the version of this header as a number, and octets_version() returns that of the linked library:
  * 1000000 * major + 10000 * minor + 100 * patch + release. The first three numbers are the version of octets. Each
  * release has a greater number of its own, also if it only adds a call, so that `#if OCTETS_VERSION >= 30703` asks
- * for the calls that release 3 added: octets_get_bytes_u64, octets_varint_len, octets_put_bytes_with_varint_length
- * and octets_status_name. Before release 3 the number was 307. */
+ * for the calls that release 3 added: octets_get_bytes_u64, octets_varint_len, octets_put_bytes_with_varint_length,
+ * octets_decode_piece, octets_decode_end and octets_status_name. Before release 3 the number was 307. */
 #define OCTETS_VERSION 30703
 /** The version of this header as text. pkg-config and meson compare it in this form, and CMake with a period in
  * place of the plus sign. */
@@ -174,7 +175,8 @@ enum
      * COMPRESSION_ERROR, and HTTP/3 as one of type QPACK_DECOMPRESSION_FAILED, or on QPACK's encoder stream of
      * type QPACK_ENCODER_STREAM_ERROR. */
     OCTETS_NOT_TEXT = 5,
-    /** The value is longer than the output buffer that the caller passed. */
+    /** The value is longer than the output buffer that the caller passed. octets_decode_piece: the byte at the
+     * offset completes more bytes than the output buffer has space for. */
     OCTETS_NO_ROOM = 6
 };
 
@@ -202,6 +204,14 @@ typedef struct octets_place {
      * the first of them. */
     uint32_t given;
 } octets_place;
+
+/** The state of a decode by octets_decode_piece, which takes an encoding in pieces. Zero-initialize the state, and
+ * then let only that call change it. You may copy it, and store it: a copy continues from the same place. */
+typedef struct octets_decoder {
+    /** A number for the bits that were read since the last complete code, of which there are at most 29. Each
+     * value of the type is such a number. 0 is that of no bits. */
+    uint8_t state;
+} octets_decoder;
 
 /** octets_status_text: returns an English description of a status, such as "length is too great", or "unknown
  * status" for any other number, as a static string that the caller must not free. The description is the same
@@ -408,6 +418,30 @@ OCTETS_CHECKED(4, 5, 6)
 octets_status octets_next_piece(const uint8_t *value, size_t value_len, bool lower_case,
     octets_place *OCTETS_RESTRICT place, uint8_t (*OCTETS_RESTRICT piece)[8],
     size_t *OCTETS_RESTRICT len);
+
+/** octets_decode_piece: decodes the bytes from the offset to the end of the buffer, which continue the encoding
+ * that earlier calls with the same decoder have read, writes the bytes whose codes they complete to the first
+ * *len bytes of out, and leaves the other bytes of out unchanged. The offset moves past the bytes that were
+ * read. Zero-initialize *decoder before the first piece. However an encoding is cut into pieces, the bytes that
+ * were written are the value that octets_get_huffman_decoded decodes of the whole encoding. An out_len of twice
+ * the number of bytes of the piece always suffices.
+ * Returns OCTETS_DONE if it read all bytes; OCTETS_NO_ROOM if the byte at the offset completes more bytes than
+ * out has space for, which are at most two; OCTETS_NOT_TEXT if the code of the symbol EOS ends in the byte at
+ * the offset, so that the encoding has an error; OCTETS_SHORT if and only if the offset was past the end of the
+ * buffer.
+ * On error: after OCTETS_NO_ROOM or OCTETS_NOT_TEXT, the bytes before the offset were read, and *len bytes were
+ * written. After OCTETS_NO_ROOM, decoding continues if you call again at this offset with space for two bytes;
+ * after OCTETS_NOT_TEXT, each such call fails again. */
+OCTETS_CHECKED(3, 4, 7)
+octets_status octets_decode_piece(const uint8_t *bytes, size_t bytes_len,
+    size_t *OCTETS_RESTRICT off, octets_decoder *OCTETS_RESTRICT decoder, uint8_t *OCTETS_RESTRICT out,
+    size_t out_len, size_t *OCTETS_RESTRICT len);
+
+/** octets_decode_end: returns OCTETS_DONE if the encoding that a decoder has read may end here: the bits after
+ * its last code are a padding of at most seven one bits, or there are none. Otherwise it returns
+ * OCTETS_NOT_TEXT. */
+OCTETS_CHECKED(1)
+octets_status octets_decode_end(const octets_decoder *decoder);
 
 /** octets_get_string: reads a string literal of HPACK (RFC 7541, section 5.2): a length, which need not be
  * encoded in its shortest form, and then a value or the Huffman encoding of a value. The literal is read from

@@ -64,7 +64,7 @@ def declaration(crate, each, structures):
         checked += [str(places)] if of.startswith("&") and not slice_of(of) else []
         text = in_c(name, of)
         for structure in structures:
-            text = re.sub(rf"^{structure}\b", f"{prefix.lower()}{structure.lower()}", text)
+            text = re.sub(rf"^(const )?{structure}\b", rf"\g<1>{prefix.lower()}{structure.lower()}", text)
         parameters.append(re.sub(r"\*(?=\w)", f"*{prefix}RESTRICT ", text, count=1) if of.startswith("&mut") else text)
     is_status = each.result == "u8"
     result = f"{prefix.lower()}status" if is_status else SCALARS.get(each.result, "void")

@@ -13,7 +13,7 @@
 
 #define MOST 70000
 #define AROUND 8
-#define EXPORTS 32
+#define EXPORTS 34
 
 typedef struct buffer {
     uint8_t all[AROUND + MOST + AROUND];
@@ -439,6 +439,30 @@ static void make_text(bool literal) {
     }
 }
 
+/* Decodes bytes that continue what was decoded before, or from another state, and sometimes into too little room. */
+static void decode_piece(void) {
+    static octets_decoder decoder;
+    size_t len = 0x1234567;
+    if (one_in(3)) {
+        decoder.state = (uint8_t)next();
+    }
+    if (which == 33) {
+        status(octets_decode_end(&decoder));
+        return;
+    }
+    if (one_in(2)) {
+        place_in(some_len());
+    } else {
+        make_text(false);
+    }
+    fill(&room, one_in(4) ? some_len() : below(60));
+    status(octets_decode_piece(given(&one), one.len, &off, &decoder, given(&room), room.len, &len));
+    mix(decoder.state);
+    mix(len);
+    left(&room);
+    moved();
+}
+
 static void read_value(void) {
     size_t len = 0x1234567;
     if (one_in(4)) {
@@ -484,6 +508,8 @@ static void call(void) {
         count_text();
     } else if (which == 24) {
         next_piece();
+    } else if (which >= 32) {
+        decode_piece();
     } else {
         read_value();
     }

@@ -11,9 +11,14 @@
 //! preconditions of the called function, and this function returns `Ok`. The clause `status` lists
 //! all statuses of a call, and other clauses say when it returns which. After an error a call has
 //! changed only what its clauses name.
+//!
+//! `octets_decode_piece` and `octets_decode_end` are `decode` and `finish` of the `Decoder` of
+//! `octets_pieces`, which the caller keeps as a byte. The first returns `OCTETS_DONE` exactly if
+//! `decode` read all bytes.
 #![tactic(auto)]
 
 mod cursors;
+mod decoder;
 mod huffman;
 mod laws;
 mod literals;

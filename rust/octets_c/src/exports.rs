@@ -2,6 +2,20 @@
 use rattle_c::{lent, shown};
 
 #[unsafe(no_mangle)]
+pub unsafe extern "C" fn octets_decode_piece(
+    bytes: *const u8, bytes_len: usize, off: &mut usize, decoder: &mut octets_c_verified::decoder::Decoder, out: *mut u8, out_len: usize, len: &mut usize,
+) -> u8 {
+    let bytes = unsafe { shown(bytes, bytes_len) };
+    let out = unsafe { lent(out, out_len) };
+    octets_c_verified::decoder::octets_decode_piece(bytes, off, decoder, out, len)
+}
+
+#[unsafe(no_mangle)]
+pub extern "C" fn octets_decode_end(decoder: &octets_c_verified::decoder::Decoder) -> u8 {
+    octets_c_verified::decoder::octets_decode_end(decoder)
+}
+
+#[unsafe(no_mangle)]
 pub unsafe extern "C" fn octets_huffman_encoding_len(
     value: *const u8, value_len: usize, lower_case: bool, len: &mut usize,
 ) -> u8 {

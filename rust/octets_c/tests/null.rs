@@ -7,6 +7,7 @@ use std::ptr::{null, null_mut};
 mod exports;
 
 use exports::*;
+use octets_c_verified::decoder::Decoder;
 use octets_c_verified::pieces::Place;
 use octets_c_verified::runs::Run;
 
@@ -89,6 +90,10 @@ fn decodes_take_null() {
     let (mut off, mut len, empty, mut byte) = (0, 9, [0x80], [7]);
     assert_eq!(unsafe { octets_get_huffman_decoded(null(), 0, &mut off, null_mut(), 0, &mut len) }, DONE);
     assert_eq!((off, len), (0, 0));
+    let mut decoder = Decoder { state: 0 };
+    len = 9;
+    assert_eq!(unsafe { octets_decode_piece(null(), 0, &mut off, &mut decoder, null_mut(), 0, &mut len) }, DONE);
+    assert_eq!((off, len, octets_decode_end(&decoder)), (0, 0, DONE));
     assert_eq!(unsafe { octets_get_string(null(), 0, &mut off, null_mut(), 0, &mut len) }, SHORT);
     assert_eq!(unsafe { octets_get_string(empty.as_ptr(), 1, &mut off, null_mut(), 0, &mut len) }, DONE);
     assert_eq!((off, len), (1, 0));

@@ -12,6 +12,10 @@
 //! preconditions of the called function, and this function returns `Ok`. The clause `status` lists
 //! all statuses of a call, and other clauses say when it returns which. After an error a call has
 //! changed only what its clauses name.
+//!
+//! `octets_decode_piece` and `octets_decode_end` are `decode` and `finish` of the `Decoder` of
+//! `octets_pieces`, which the caller keeps as a byte. The first returns `OCTETS_DONE` exactly if
+//! `decode` read all bytes.
 #![cfg_attr(not(test), no_std)]
 #![allow(clippy::all, missing_docs, unstable_name_collisions, unused)]
 #![forbid(unsafe_code)]
@@ -19,6 +23,7 @@
 use rattle_std::{self as std, prelude::*};
 
 pub mod cursors;
+pub mod decoder;
 pub mod huffman;
 pub mod laws;
 pub mod literals;
