@@ -55,6 +55,52 @@ pub use rattle_std::alloc::AllocError;
 /// API this crate has, so that Cargo accepts it as a replacement.
 pub const RELEASE: u32 = 3;
 
+impl<'a> Octets<'a> {
+    /// Returns the bytes that remain, from the offset on. They live as long as the buffer, also if the cursor doesn't.
+    ///
+    /// ```
+    /// # use octets::*;
+    /// let bytes = [1, 2, 3];
+    /// let rest = {
+    ///     let mut cursor = Octets::with_slice(&bytes);
+    ///     cursor.skip(1)?;
+    ///     cursor.remaining()
+    /// };
+    /// assert_eq!(rest, [2, 3]);
+    /// # Ok::<(), BufferTooShortError>(())
+    /// ```
+    #[inline]
+    pub fn remaining(&self) -> &'a [u8] {
+        &self.buf()[self.off()..]
+    }
+}
+
+/// A clone is a cursor over the same buffer, at the same offset.
+impl Clone for Octets<'_> {
+    #[inline]
+    fn clone(&self) -> Self {
+        let mut cursor = Octets::with_slice(self.buf());
+        cursor.skip(self.off()).expect("the offset is within the buffer");
+        cursor
+    }
+}
+
+/// Returns a number of bytes that suffices for the value of a Huffman encoding of `len` bytes: 8 / 5 of `len`, since the
+/// shortest codes have five bits. For example, it is the size of a buffer for
+/// [`get_huffman_decoded_into`](Octets::get_huffman_decoded_into). If `usize` can't hold it, it returns `usize::MAX`.
+///
+/// ```
+/// # use octets::{*, more::*};
+/// // Five bytes of zero bits are eight codes of `0`.
+/// assert_eq!(huffman_decoded_len_max(5), 8);
+/// assert_eq!(Octets::with_slice(&[0; 5]).get_huffman_decoded()?, b"00000000");
+/// # Ok::<(), BufferTooShortError>(())
+/// ```
+#[inline]
+pub const fn huffman_decoded_len_max(len: usize) -> usize {
+    (len / 5).saturating_mul(8).saturating_add(len % 5 * 8 / 5)
+}
+
 impl Octets<'_> {
     /// Decodes as [`get_huffman_decoded`](Self::get_huffman_decoded) does, but returns an error if the allocation fails.
     ///

@@ -465,3 +465,30 @@ fn a_cursor_becomes_the_verified_one_and_back() {
     cursor.put_u16(0x0809).unwrap();
     assert_eq!(bytes, [9, 8, 9]);
 }
+
+#[test]
+fn a_clone_reads_on_from_the_same_byte() {
+    let bytes: Vec<u8> = (0..9).collect();
+    for off in 0..=bytes.len() {
+        let mut cursor = Octets::with_slice(&bytes);
+        cursor.skip(off).unwrap();
+        let mut clone = cursor.clone();
+        assert_eq!((clone.off(), clone.buf(), clone.remaining()), (off, &bytes[..], &bytes[off..]));
+        assert_eq!(clone.get_u8().ok(), bytes.get(off).copied());
+        assert_eq!((cursor.off(), cursor.cap(), cursor.remaining()), (off, bytes.len() - off, &bytes[off..]));
+    }
+}
+
+/// The codes of `0` have five bits, so zero bytes are as many as possible of them.
+#[test]
+fn the_greatest_length_of_a_value_is_reached() {
+    for len in 0..=40 {
+        let zeros = 8 * len / 5;
+        let mut encoding = vec![0xff; len];
+        OctetsMut::with_slice(&mut encoding).put_huffman_encoded::<false>(&vec![b'0'; zeros]).unwrap();
+        assert_eq!(Octets::with_slice(&encoding).get_huffman_decoded().unwrap().len(), zeros);
+        assert_eq!(huffman_decoded_len_max(len), zeros);
+    }
+    assert_eq!(huffman_decoded_len_max(usize::MAX / 8 * 5), usize::MAX / 8 * 8);
+    assert_eq!(huffman_decoded_len_max(usize::MAX), usize::MAX);
+}

@@ -123,7 +123,10 @@ fn items<'a>() {
     let _: fn(u8) -> usize = varint_parse_len;
     let _: Result<u8> = Ok(0);
     let BufferTooShortError = BufferTooShortError;
-    lack!(Clone, std::hash::Hash, std::fmt::Display, Default, PartialOrd; (Octets, OctetsMut));
+    lack!(std::hash::Hash, std::fmt::Display, Default, PartialOrd; (Octets, OctetsMut));
+    lack!(Clone; (OctetsMut));
+    #[cfg(not(feature = "more"))]
+    lack!(Clone; (Octets));
     lack!(std::fmt::Write, std::io::Write, std::io::Read, IntoIterator, std::ops::Deref, std::borrow::Borrow<[u8]>; (Octets, OctetsMut));
     lack!(From<&'static [u8]>, PartialEq<[u8]>, std::ops::Index<usize>; (Octets, OctetsMut));
     lack!(AsMut<[u8]>, OctetsWriter; (Octets));
