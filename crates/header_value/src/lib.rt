@@ -74,13 +74,18 @@ pub fn end(value: &HeaderValue) -> Result<usize, Refusal>
     }
 }
 
-#[test]
-fn a_value_comes_in_two_frames(rt: HostRuntime) {
-    // RFC 7541, Appendix C.4.1.
-    let mut value = begin();
-    let mut out = [0; 16];
-    let first = add_piece(&mut value, b"\xf1\xe3\xc2\xe5\xf2", &mut out);
-    let second = add_piece(&mut value, b"\x3a\x6b\xa0\xab\x90\xf4\xff", &mut out);
-    assert!(rt; first == Ok(()) && second == Ok(()));
-    assert!(rt; end(&value) == Ok(15) && out.starts_with(b"www.example.com"));
+#[cfg(test)]
+mod tests {
+    use super::*;
+
+    #[test]
+    fn a_value_comes_in_two_frames(rt: HostRuntime) {
+        // RFC 7541, Appendix C.4.1.
+        let mut value = begin();
+        let mut out = [0; 16];
+        let first = add_piece(&mut value, b"\xf1\xe3\xc2\xe5\xf2", &mut out);
+        let second = add_piece(&mut value, b"\x3a\x6b\xa0\xab\x90\xf4\xff", &mut out);
+        assert!(rt; first == Ok(()) && second == Ok(()));
+        assert!(rt; end(&value) == Ok(15) && out.starts_with(b"www.example.com"));
+    }
 }
