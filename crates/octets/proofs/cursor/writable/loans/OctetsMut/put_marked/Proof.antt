@@ -48,7 +48,8 @@ put_marked_spec 𝓤 𝓛 𝓜 𝓡 wired =
     let κ = κs.0 in let κ' = κs.1.0 in let q = qs.0 in let q' = qs.1.0 in let x : MutBor SliceCursor = a.0 in
     let D' = St (named 1) κ' in
     let m0 = a.1.0 in let f0 : m0 < 2 ^ 64 = are.1.0.1 in let m1 = a.1.1.0 in let f1 : m1 < 2 ^ 64 = are.1.1.0.1 in
-    let then : List ℕ = splice x.now.buf.now x.now.off (network m1 (marked m1 m0)) in let i : ℕ = x.now.off in let n : ℕ = m1 in
+    let then : List ℕ = splice x.now.buf.now x.now.off (network m1 (marked m1 m0)) in
+    let i : ℕ = x.now.off in let n : ℕ = m1 in
     let end : ℕ = x.now.off + m1 in
     let y : V.Ghost = ((κs, qs, bounds, a, (mut_vals x, (vint w64 m0 ∷ [], (vint w64 m1 ∷ [], tt)))), tt) in
     qed 𝓛 (((‵ (flft κ q) ⊛ ‵ (flft κ' q') ⊛ ‵ ftrue) ⊛ ‵ (owns (MutRef (named 0) κ D' ∷ u64 ∷ usize ∷ []) a y.0.4))
@@ -92,4 +93,5 @@ put_marked_spec 𝓤 𝓛 𝓜 𝓡 wired =
     suffices ! _ (ends_at 𝓛 f.ended stayed c y w s (tt, (tt, (tt, tt))) (tt, (tt, (tt, tt)))) $
     hands_over ! 3 (both_ways same fits) (reshown (λ (b : List ℕ) (r : MutBor (List ℕ)). r.now ≡ b)
     x.now ws.0 t s then i n end (network m1 (marked m1 m0)) leaves same
-    (λ inside. part-spliced x.now.buf.now x.now.off m1 (network m1 (marked m1 m0)) (length_network m1 (marked m1 m0)) inside) shown))))))))
+    (λ inside. part-spliced x.now.buf.now x.now.off m1 (network m1 (marked m1 m0))
+    (length_network m1 (marked m1 m0)) inside) shown))))))))
