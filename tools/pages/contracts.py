@@ -36,6 +36,7 @@ class Item(NamedTuple):
     signature: str
     doc: list  # its paragraphs without the example, and of a type the public fields or the variants with theirs
     groups: list = []  # (the comment above the clauses, or "", and the clauses)
+    line: int = 0
 
     def clauses(self):
         return [clause for _, clauses in self.groups for clause in clauses]
@@ -102,6 +103,7 @@ def groups_at(lines, at):
 
 def item_at(lines, at, doc, owner, trait):
     """The function, constant, type or ghost member that begins at line `at`, and the line after it."""
+    first = at + 1
     members = list(members_at(lines, at + 1)) if re.match(r"pub (struct|enum)\b.*\{$", lines[at]) else []
     if members or lines[at].startswith("pub struct"):
         text, at = lines[at].rstrip(" {"), at + 1
@@ -114,7 +116,7 @@ def item_at(lines, at, doc, owner, trait):
     if owner and text.startswith("fn "):
         name = f"{owner}::{name}"
         text = f"fn {owner}::{text[3:]}" + (f", as {trait}" if trait not in ("", owner) else "")
-    return Item(name, text, [*paragraphs(doc), *members], groups), at
+    return Item(name, text, [*paragraphs(doc), *members], groups, first), at
 
 
 def items(lines):

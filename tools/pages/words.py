@@ -42,7 +42,7 @@ You import a definition by its file. The definition `rest`, which is listed unde
 | `at_most n` | In an iterator's `remaining`: at most n items come before `None`. |
 | `vec_len v`, `vec_capacity v` | the number of elements of the `Vec` v, and for how many it has memory |
 | `slice_get l i` | `Some` of element number i of the list l; `None` if l has no such element |
-| `sem 𝓛 (P)` in `ensures*` | P is about the end of a loan: what is true once the reference that the call returned is no longer used. P is made of `Lends` and of definitions such as `EndsPast` and `LendsPart` below. The kit's page `docs/BORROWS.md` explains it. |
+| `sem 𝓛 (P)` in `ensures*` | P is about the end of a loan: what is true once the reference that the call returned is no longer used. P is made of `Lends` and of definitions such as `EndsPast` and `LendsPart`. The kit's page `docs/BORROWS.md` explains it. |
 | `Lends R T s r F` | When the loan ends, s is `F x`, where x is the last value behind the reference r; R and T are the types of s and of x. It is in `Rattle.std.specs.Borrow`. |
 
 `IfOk r (IsViewOf b)` is `IfOk r (λ v. IsViewOf b v)`: the value is the last argument.
