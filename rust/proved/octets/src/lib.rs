@@ -16,6 +16,7 @@ mod huffman;
 #[doc(hidden)]
 pub mod laws;
 mod number;
+mod sink_writes;
 mod slices;
 mod varint;
 mod writer;
@@ -27,6 +28,10 @@ pub use cursor::writable::OctetsMut;
 pub use error::{BufferTooShortError, DecodeError, IntoError, Result, VarintError};
 pub use huffman::{
     Pending, cased_byte, huffman_encoding_len, huffman_text_len, put_huffman_encoded,
+};
+pub use sink_writes::{
+    write_bytes_with_varint_length, write_u8, write_u16, write_u24, write_u32, write_u64,
+    write_varint, write_varint_with_len,
 };
 pub use varint::{MAX_VAR_INT, varint_fits, varint_len, varint_parse_len};
 pub use writer::OctetsWriter;
