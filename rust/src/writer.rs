@@ -40,8 +40,9 @@ pub trait OctetsWriter {
     /// It calls `put_bytes` with pieces of eight bytes, then with one piece of four bytes if at least four are left, then
     /// with single bytes. Encoding stops at the first error of the sink and returns it. The earlier pieces remain written.
     ///
-    /// This is [verified](crate#what-is-verified) for a sink whose `put_bytes` appends all of `v` if it returns `Ok`, and a
-    /// prefix of `v` if it returns `Err`.
+    /// If `put_bytes` appends all of `v` whenever it returns `Ok`, and a prefix of `v` whenever it returns `Err`, it is
+    /// [verified](crate#what-is-verified) that the sink has got the encoding, or a prefix of it. Nothing checks that a sink
+    /// does so. The lengths of the pieces are tested.
     #[cfg(feature = "huffman_hpack")]
     fn put_huffman_encoded<const LOWER_CASE: bool>(&mut self, v: &[u8]) -> Result<(), Self::Error>
     where

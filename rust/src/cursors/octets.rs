@@ -24,7 +24,8 @@ impl Octets<'_> {
     /// Decodes as [`get_huffman_decoded`](Self::get_huffman_decoded) does, and also fails if the value has more than
     /// `max_len` bytes. Use it for data that comes from a peer.
     ///
-    /// It reserves memory for at most `max_len` bytes, and for at most two bytes for each byte that remains.
+    /// It reserves memory for at most `max_len` bytes, and for at most two bytes for each byte that remains, and fills it
+    /// with zeros before it reads a byte.
     ///
     /// ```
     /// # use octets::*;

@@ -5,6 +5,7 @@ mod model;
 #[allow(clippy::upper_case_acronyms, clippy::wrong_self_convention)]
 mod names;
 mod panics;
+mod places;
 mod prints;
 mod reads;
 mod texts;
