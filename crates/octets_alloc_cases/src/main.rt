@@ -5,17 +5,12 @@
 
 mod calls;
 mod copies;
-mod counting_sink;
 mod decodes;
 mod lists;
 mod literals;
 mod long;
-mod many;
 mod print;
 mod sinks;
-mod sized;
-mod sized_literals;
-mod sized_scripts;
 mod uses;
 
 use calls::{Call, call_of};
@@ -29,9 +24,6 @@ fn main(rt: HostRuntime) -> io::Result<()> {
     let mut input = [0; 64];
     let len = rt.stdin().read(&mut input)?;
     let call = str::from_utf8(&input[..len]).unwrap_or("").trim_end();
-    if let Some((name, size)) = call.split_once(' ') {
-        return call_with_length(&rt, name, size.parse().unwrap_or(0));
-    }
     match call_of(call) {
         Some(call) => make(&rt, &call),
         None => print::line(&rt, "no such call"),
@@ -78,24 +70,5 @@ fn make_other<R: Print + AllocGlobal>(rt: &R, call: &Call) -> io::Result<()> {
         Call::Text(value) => uses::text(rt, value),
         Call::GrowingSink(first, second, third) => uses::sink(rt, first, second, third),
         _ => Ok(()),
-    }
-}
-
-/// Makes the calls whose input says over how many bytes they are.
-fn call_with_length<R: Print + AllocGlobal>(rt: &R, name: &str, n: usize) -> io::Result<()> {
-    if let Some(command) = name.strip_prefix("script-") {
-        return sized_scripts::call(rt, command, n);
-    }
-    if let Some(entries) = name.strip_prefix("many-") {
-        return many::call(rt, entries, n);
-    }
-    match name {
-        "get-string" | "get-string-text" | "get-strings" | "header-field" => {
-            sized_literals::call(rt, name, n)
-        }
-        "text" | "growing-sink" | "records" | "edges" => sized_literals::use_call(rt, name, n),
-        name if name.ends_with("-calls") => counting_sink::call(rt, name, n),
-        "decode-under-each" => sized::under_each(rt, n),
-        name => sized::call(rt, name, n),
     }
 }

@@ -22,30 +22,3 @@ pub fn answer<R: Print, T: Debug>(rt: &R, answer: &T) -> io::Result<()> {
 pub fn answer_at<R: Print, T: Debug>(rt: &R, answer: &T, off: usize) -> io::Result<()> {
     println!(rt; "{answer:?} off {off}")
 }
-
-/// Prints how many bytes there are, and which.
-pub fn bytes<R: Print>(rt: &R, bytes: &[u8]) -> io::Result<()> {
-    let first = bytes.first().copied().unwrap_or(0);
-    for byte in bytes {
-        if *byte != first {
-            return count(rt, bytes.len(), "mixed bytes");
-        }
-    }
-    println!(rt; "{} times {first}", bytes.len())
-}
-
-/// Prints the same for a result, or prints the error.
-pub fn bytes_of<R: Print, E: Debug + Drop>(rt: &R, answer: Result<Vec<u8>, E>) -> io::Result<()> {
-    match answer {
-        Ok(value) => bytes(rt, &value),
-        Err(error) => self::answer(rt, &error),
-    }
-}
-
-/// Prints the same for each of these values.
-pub fn bytes_of_each<R: Print>(rt: &R, values: &[Vec<u8>]) -> io::Result<()> {
-    for value in values {
-        bytes(rt, value)?;
-    }
-    Ok(())
-}
