@@ -32,8 +32,8 @@ PARTS = (
     (
         "decoding under a limit answers v exactly where the remaining bytes are v's text and v is within the limit, and "
         "refuses all else",
-        "`value` says that a value that is returned is right, and `every` that it is returned, unless an allocation failed. "
-        "`ends`, or `refused` and `passed`, says what an error means, and where the offset is.",
+        "`value` says that a returned value is right, and `every` that a right value is returned, unless an allocation failed. "
+        "`ends`, or `refused` and `passed`, says where the offset is, and that any other error means that no value is right.",
         [
             ("octets", "Octets::get_huffman_decoded", "value every ends"),
             ("octets", "Octets::get_huffman_decoded_with_max_length", "value every ends"),
@@ -204,7 +204,17 @@ def alike(clauses):
         groups.setdefault("".join(re.sub(r"^([A-Z]\w*|\d+)$", "#", it) for it in tokens), []).append(tokens)
     for each in groups.values():
         columns = ["/".join(dict.fromkeys(it) if len(set(it)) == 1 else it) for it in zip(*each)]
-        yield "".join(".." if "/" in it and it in columns[:at] else it for at, it in enumerate(columns))
+        listed = [at for at, it in enumerate(zip(*each)) if len(set(it)) > 1]
+        is_one = len({columns[at] for at in listed}) == 1
+        yield "".join(".." if is_one and at in listed[1:] else it for at, it in enumerate(columns))
+
+
+def spread(line):
+    """The clauses that such a line stands for."""
+    lists = [it.split("/") for it in re.findall(r"\w+(?:/\w+)+", line)]
+    for names in zip(*lists) if lists else [()]:
+        each = iter(names)
+        yield re.sub(r"\w+(?:/\w+)+|\.\.", lambda it: names[0] if it[0] == ".." else next(each), line)
 
 
 def filled(text, first="", below="      "):
@@ -231,7 +241,10 @@ def displayed(definition):
     clauses = re.split(begins, "\n".join(["", *below]))[1:]
     if len(clauses) < MANY:
         return definition.lines
-    return [head, *(it for clause in alike(clauses) for line in clause.split("\n") for it in wrapped(line))]
+    shown = list(alike(clauses))
+    if {it for line in shown for it in spread(line)} != {*clauses}:
+        raise SystemExit(f"docs/THEOREM.md can't show the lines of {definition.name} that are alike as one")
+    return [head, *(it for clause in shown for line in clause.split("\n") for it in wrapped(line))]
 
 
 def length(definitions):
