@@ -17,7 +17,7 @@ HEAD = """# Contracts of `{0}`
 
 Each public call, its description, and its clauses, as they are in `src/`. `tools/pages/make` writes this page; [CALLING.md](../octets/CALLING.md#the-picture) says how to read a clause, [WORDS.md](../../docs/WORDS.md) what the definitions mean, and the [glossary](../../docs/DEFINITIONS.md#terms) what a loan or a sink is.
 
-- The description of a call says in words what the clauses directly below it state. A line with `//` does so for the clauses below it. *Exactly if* means "if and only if".
+- The description of a call says in words what the clauses directly below it state, and here and there what [no clause states](../../docs/PROOFS.md#mistakes-that-tests-catch), such as which pieces a sink gets. A line with `//` does so for the clauses below it. *Exactly if* means "if and only if".
 - `S` is what `self` points to at the call, and `S'` at the return. A starred clause says what a loan leaves once it ends.
 - `as X` says that the description and all clauses are word for word those of the method X, over this cursor. `fits, view as X` says so of the description and of these two.
 

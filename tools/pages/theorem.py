@@ -131,7 +131,7 @@ class Reached:
 
     def read(self, text, known):
         """Adds what a text uses. Each capital name of it has to be known."""
-        capitals = re.findall(r"(?<![\w.])[A-Z][A-Za-z]\w+(?!\w*[.])", re.sub(r"--.*", "", text))
+        capitals = re.findall(r"(?<![\w.])[A-Z][A-Za-z]\w+(?!\w*[.])", re.sub(r'--.*|"[^"]*"', "", text))
         if lost := {*capitals} - {*known} - {"Type", "LOWER_CASE"}:
             raise SystemExit(f"docs/THEOREM.md: no import has the names {', '.join(sorted(lost))}")
         for used in specs.named(text, known):
@@ -170,6 +170,22 @@ def functions(crate, name, wanted):
     if not found:
         raise SystemExit(f"docs/THEOREM.md: {crate} has no function {name} with the clauses {' '.join(wanted)}")
     return found
+
+
+def used_by_callers(examples):
+    """(file, name) of each definition that clauses of public calls reach, or what these crates import."""
+    reached = Reached()
+    for crate in contracts.CRATES:
+        for _, lines, item in items(crate):
+            known = dict(specs.imports(lines))
+            for used in specs.named("\n".join([item.signature, *item.clauses()]), known):
+                reached.follow(*known[used])
+    files = (path for crate in examples for part in ("src", "specs") for path in (TOP / "crates" / crate / part).rglob("*.*t"))
+    for path in files:
+        for _, (module, there) in specs.imports(path.read_text("utf-8").splitlines()):
+            if there and specs.find(module, there):
+                reached.follow(module, there)
+    return {(it.path, it.name) for it in reached.definitions}
 
 
 def split(text, sign):

@@ -1,5 +1,5 @@
-"""The page docs/WORDS.md: the definitions in `specs/` that have a comment, of the crates that callers use, and the lemmas for
-callers, each with the comment above it. Only a lemma that is in no set has its statement there.
+"""The page docs/WORDS.md: the definitions in `specs/` that clauses of public calls or the examples use and that have a comment,
+and the lemmas for callers, each with the comment above it. Only a lemma that is in no set has its statement there.
 
 make imports it.
 """
@@ -10,7 +10,7 @@ TOP = pathlib.Path(__file__).resolve().parents[2]
 CRATES = ("octets_code", "octets", "octets_literal", "octets_pieces", "octets_script", "octets_c")
 HEAD = """# Words
 
-This page is for you if you read or write contracts. It lists the definitions in `specs/` of the crates that callers use, each with the comment above it, and the lemmas [for callers](#lemmas-for-callers). (A definition without a comment isn't listed; there are four.) `tools/pages/make` writes this page. [DEFINITIONS.md](DEFINITIONS.md) explains the terms of the promise.
+This page is for you if you read or write contracts. It lists the definitions in `specs/` that the contracts of public calls and the examples use, each with the comment above it, and lemmas, of which some are [for callers](#lemmas-for-callers). `tools/pages/make` writes this page. [DEFINITIONS.md](DEFINITIONS.md) explains the terms of the promise.
 
 A starred definition is opaque: a tactic doesn't expand it unless the function names it in `unfolding(..)`. Some comments use these words: `x` behind `y` comes after y, a front is a prefix, the text of v is its Huffman encoding, and a run is a byte string that is read or written as a whole. A buffer has the same name if it is the same buffer, such as the same slice of the caller, and doesn't only have the same bytes: `IsUnchanged`, `Passes`, `Advances` and `Reads` all say this of the buffers of their two cursors.
 
@@ -101,13 +101,15 @@ def definitions(lines):
             yield at, line.strip()
 
 
-def words(path):
-    """(name with its arguments, whether it is opaque, comment) of each definition of a file that has a comment."""
+def words(path, used):
+    """(name with its arguments, whether it is opaque, comment) of each definition of a file that has a comment, if it is one of
+    those that are used, or a lemma."""
     lines = path.read_text().splitlines()
     below = [line.strip() for line in lines]
     for at, line in definitions(lines):
         name, head = WORD.match(line).groups()
-        if (comment := comment_above(lines, at)) and not SKIPPED.match(name):
+        is_lemma = re.match(r"pub (?!record|data)", line)
+        if (comment := comment_above(lines, at)) and not SKIPPED.match(name) and (is_lemma or (path, name) in used):
             yield name + arguments(name, head, below[at + 1 :], comment), line.startswith("unfoldable"), comment
 
 
@@ -150,7 +152,8 @@ def lemmas(crate):
                 yield lemma(TOP / "crates" / below / f"{module.replace('.', '/')}.antt", name, sets)
 
 
-def page():
+def page(used):
+    """The page, with the definitions of which (file, name) is used."""
     out = [HEAD]
     for name in CRATES:
         folder = TOP / "crates" / name / "specs"
@@ -158,7 +161,7 @@ def page():
             continue
         out += [f"## {name}", ""]
         for path in sorted(folder.rglob("*.antt")):
-            rows = [f"- `{said}`{'*' * closed}: {comment}" for said, closed, comment in words(path)]
+            rows = [f"- `{said}`{'*' * closed}: {comment}" for said, closed, comment in words(path, used)]
             if rows:
                 out += [f"### {path.relative_to(folder).with_suffix('')}", *rows]
     out += [LEMMAS]
