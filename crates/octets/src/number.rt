@@ -6,14 +6,16 @@ use crate::error::{BufferTooShortError, Result};
 
 /// Returns the `N` bytes from the position `from` on.
 #[inline(always)]
-fn chunk<const N: usize>(bytes: &[u8], from: usize) -> Result<&[u8; N]>
-    requires { from ≤ length bytes.now }
+pub(crate) fn chunk<const N: usize>(bytes: &[u8], from: usize) -> Result<&[u8; N]>
+    requires within { from ≤ length bytes.now }
+    requires few { N ≤ 8 }
     ensures fits { IsOk result ↔ (N ≤ length (drop from bytes.now)) }
     ensures value { IfOk result (λ c. c.now ≡ take N (drop from bytes.now)) }
 {
-    // `from` is never past the end, but rustc can't know that: an index would panic there.
-    match bytes.get(from..) {
-        Some(rest) => match rest.first_chunk::<N>() {
+    // `from` is never past the end, but rustc can't know that: a range that begins with it would
+    // be compared at both ends.
+    match bytes.get(..from + N) {
+        Some(front) => match front.last_chunk::<N>() {
             Some(found) => Ok(found),
             None => Err(BufferTooShortError),
         },
@@ -30,8 +32,10 @@ pub(crate) fn read_u8(bytes: &[u8], from: usize) -> Result<u8>
     ensures value { IfOk result (λ n. n ≡ number (take 1 (drop from bytes.now))) }
     ensures spells { IfOk result (λ n. drop from bytes.now ≡ network 1 n ++ drop 1 (drop from bytes.now)) }
 {
-    let [a] = *chunk::<1>(bytes, from)?;
-    Ok(a)
+    match bytes.get(from) {
+        Some(byte) => Ok(*byte),
+        None => Err(BufferTooShortError),
+    }
 }
 
 /// Returns the two bytes from the position `from` on as a big-endian number.

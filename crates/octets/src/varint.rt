@@ -7,7 +7,7 @@ ghost use Rattle.octets.specs.Varints.{HoldsVarint, IsVarint, IsWidth, shortest,
 ghost use Rattle.octets.specs.declared.error.VarintError.TheVariants.{Short, Overlong};
 
 use crate::error::{Result, VarintError};
-use crate::number::{read_u8, read_u16, read_u32, read_u64};
+use crate::number::{chunk, read_u16, read_u32, read_u64};
 
 /// The greatest value of a varint: 2 to the power 62, less one.
 pub const MAX_VAR_INT: u64 = 4_611_686_018_427_387_903;
@@ -85,7 +85,7 @@ pub(crate) fn read_varint(bytes: &[u8], from: usize) -> Result<(usize, u64)>
     ensures within { IfOk result (λ r. r.0 ≤ length (drop from bytes.now)) }
     ensures refused { OnErr result (HasNoVarint (drop from bytes.now)) }
 {
-    let first = read_u8(bytes, from)?;
+    let [first] = *chunk::<1>(bytes, from)?;
     if first < 64 {
         return Ok((1, u64::from(first)));
     }

@@ -9,11 +9,13 @@ use crate::error::{BufferTooShortError, Result};
 /// # Requires
 ///
 /// - `from ≤ length bytes.now`
+/// - `N ≤ 8`
 #[inline(always)]
-fn chunk<const N: usize>(bytes: &[u8], from: usize) -> Result<&[u8; N]> {
-    // `from` is never past the end, but rustc can't know that: an index would panic there.
-    match bytes.get(from..) {
-        Some(rest) => match rest.first_chunk::<N>() {
+pub(crate) fn chunk<const N: usize>(bytes: &[u8], from: usize) -> Result<&[u8; N]> {
+    // `from` is never past the end, but rustc can't know that: a range that begins with it would
+    // be compared at both ends.
+    match bytes.get(..from + N) {
+        Some(front) => match front.last_chunk::<N>() {
             Some(found) => Ok(found),
             None => Err(BufferTooShortError),
         },
@@ -28,8 +30,10 @@ fn chunk<const N: usize>(bytes: &[u8], from: usize) -> Result<&[u8; N]> {
 /// - `from ≤ length bytes.now`
 #[inline(always)]
 pub(crate) fn read_u8(bytes: &[u8], from: usize) -> Result<u8> {
-    let [a] = *chunk::<1>(bytes, from)?;
-    Ok(a)
+    match bytes.get(from) {
+        Some(byte) => Ok(*byte),
+        None => Err(BufferTooShortError),
+    }
 }
 
 /// Returns the two bytes from the position `from` on as a big-endian number.

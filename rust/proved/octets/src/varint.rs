@@ -3,7 +3,7 @@
 use rattle_std::{self as std, prelude::*};
 
 use crate::error::{Result, VarintError};
-use crate::number::{read_u8, read_u16, read_u32, read_u64};
+use crate::number::{chunk, read_u16, read_u32, read_u64};
 
 /// The greatest value of a varint: 2 to the power 62, less one.
 pub const MAX_VAR_INT: u64 = 4_611_686_018_427_387_903;
@@ -75,7 +75,7 @@ pub const fn varint_parse_len(first: u8) -> usize {
 /// - `from ≤ length bytes.now`
 #[inline(always)]
 pub(crate) fn read_varint(bytes: &[u8], from: usize) -> Result<(usize, u64)> {
-    let first = read_u8(bytes, from)?;
+    let [first] = *chunk::<1>(bytes, from)?;
     if first < 64 {
         return Ok((1, u64::from(first)));
     }

@@ -1,4 +1,4 @@
-use Rattle.std.proofs.Common.{rules, ◌%◌}
+use Rattle.std.proofs.Common.{◌%◌}
 use Rattle.std.specs.Int.Bits.{or_zero_r}
 use Rattle.octets.proofs.cursor.Cursor.write_marked.Goals as goal
 

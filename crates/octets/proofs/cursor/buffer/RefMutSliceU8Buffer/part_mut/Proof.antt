@@ -3,11 +3,11 @@
 use Rattle.octets.proofs.loans
 use loans.WalkSteps.{arith, ◌-◌}
 use loans.WalkSteps.{ℕ, ◌+◌, ◌*◌, ◌^◌, ◌<◌, ◌≤◌, List, [], ◌∷◌, length, take, refl, w64, MutBor, proved, full_share}
-use loans.WalkSteps.{ftrue, fat, use1, flft, named, Val, vint, fact, tables, ‵, raw, ◌⊛◌, some, later, at_ret, ◌$◌}
+use loans.WalkSteps.{ftrue, fat, use1, flft, named, Val, vint, fact, tables, ‵, raw, ◌⊛◌, some, later, ◌$◌}
 use loans.WalkSteps.{◌∵◌, !, qed, done, move, keep, drop, use2, use3, split, split3, join, fsplit, fsplit3, fjoin}
 use loans.WalkSteps.{feq_i, feq_l, pick, await, rewrite, suffices, frame, enter, of_opd, bin, addr, stop, fld, hop}
-use loans.WalkSteps.{no_more, and_then, first, blocks, exec, returns, whole, sub, look_in, agg, alloc_all, pass_all}
-use loans.WalkSteps.{free_all, look_at, get, through, sets, sets_last, env, u8, usize, yes, no, mem, uint_vals}
+use loans.WalkSteps.{no_more, and_then, returns, whole, sub, look_in, agg, alloc_all, pass_all}
+use loans.WalkSteps.{free_all, look_at, get, through, sets, u8, usize, yes, no, mem, uint_vals}
 use loans.WalkSteps.{uint_Tells, owns, MutRef, mut_vals, mut_Tells, at_last, MutSlice, slice_val, mut_slice_vals}
 use loans.WalkSteps.{plain, mut_slice_of, nothing, heard, opens, closes, Stays, walk_of, says, stay_dropped}
 use loans.WalkSteps.{Goes-dropped, Goes-spent_ref, ends_at}

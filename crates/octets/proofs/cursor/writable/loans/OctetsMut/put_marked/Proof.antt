@@ -3,7 +3,7 @@
 use Rattle.octets.proofs.cursor.writable.loans as loan_calls
 use Rattle.octets.specs
 use Rattle.octets.proofs.loans
-use loans.WalkSteps.{◌≡◌, ℕ, ◌+◌, ◌-◌, ◌*◌, ◌^◌, ◌<◌, List, [], ◌∷◌, refl, MutBor, proved, id⊢, ftrue, use1, flft}
+use loans.WalkSteps.{◌≡◌, ℕ, ◌+◌, ◌^◌, ◌<◌, List, [], ◌∷◌, refl, MutBor, proved, id⊢, ftrue, use1, flft}
 use loans.WalkSteps.{named, vint, fact, tables, ‵, raw, ◌⊛◌, ◌$◌, ◌∵◌, !, qed, move, keep, drop, split, join, fsplit}
 use loans.WalkSteps.{rewrite, suffices, enter, addr, stop, no_more, and_then, returns, alloc_all, pass_all, free_all}
 use loans.WalkSteps.{look_at, get, through, sets, lands_as, u64, usize, w64, yes, no, owns, MutRef, mut_vals}
