@@ -33,7 +33,7 @@ PARTS = (
         "decoding under a limit answers v exactly where the remaining bytes are v's text and v is within the limit, and "
         "refuses all else",
         "`value` says that a returned value is right, and `every` that a right value is returned, unless an allocation failed. "
-        "`ends`, or `refused` and `passed`, says where the offset is, and that any other error means that no value is right.",
+        "`ends`, or `refused` and `passed`, says where the offset is, and that any other error means that there is no right value.",
         [
             ("octets", "Octets::get_huffman_decoded", "value every ends"),
             ("octets", "Octets::get_huffman_decoded_with_max_length", "value every ends"),
@@ -72,7 +72,7 @@ This page is for you if you review the library. It has all that the sentence in 
 - `P ↔ Q` is "P if and only if Q", `×` "and", `⊎` "or", `→` "implies", and `¬` "not". `(v : T) → P` is "P for each v", and `(v : T) × P` "P for some v". `λ v. P` is the function of v. `f x y` is `f(x, y)` in Rust, and `c.off` is a field.
 - A clause is shown as in the pages CONTRACTS.md: `S` is what `self` points to at the call, and `S'` at the return; so are `x.old` and `x.new` of another argument. A starred clause says what a loan leaves once it ends. `requires` is a condition on the caller.
 - A definition follows the first clause or definition that uses it. `-- octets_code Texts:31` is its place, line 31 of `crates/octets_code/specs/Texts.antt`; the words after it are its comment there. `-- octets cursor:23` above a function is line 23 of `crates/octets/src/cursor.rt`.
-- A definition by one equation is shown as `name (argument : type) : type = value`; the sources have the types on a line of their own. What these have in braces, such as `{{X : Type 0}} {{g : Ghosts X}}`, isn't shown: X is any type of buffer. `Type 0` is the type of statements, and of types.
+- A definition by one equation is shown as `name (argument : type) : type = value`; the sources have the types on a line of their own. What these have in braces, such as `{{X : Type 0}} {{g : Ghosts X}}`, isn't shown: X is any type of buffer. Nor are arguments that all definitions of a section have: `B.row B.Bytes` in a clause with `LendsPart` are the type of the buffer and its `impl Bytes`. `Type 0` is the type of statements, and of types.
 - Lines that differ only in names of constructors or in numerals are one line: `f A/B = 1/2` is `f A = 1` and `f B = 2`. `..` is the same list of names again.
 - A `record` is a structure. As a statement it is true if its fields have values, and those that are statements are true.
 - `C.GetU8` is the variant `GetU8` of the enum `Command`, and `R.Done` the variant `Done` of `Reply`.
