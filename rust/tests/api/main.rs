@@ -1,7 +1,6 @@
 //! Tests of what the crate's calls do, and of the types of its items.
 mod bounds;
 mod examples;
-mod model;
 #[allow(clippy::upper_case_acronyms, clippy::wrong_self_convention)]
 mod names;
 mod panics;

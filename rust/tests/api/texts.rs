@@ -53,58 +53,6 @@ fn texts_are_written_and_read_back() {
     }
 }
 
-/// A value is decoded if it isn't longer than the limit, for each length and each limit. The vector has a capacity of
-/// at most two bytes for each byte of the encoding, or of 16 bytes if that is more. An empty vector takes no memory.
-#[test]
-fn values_of_each_length_are_read_within_each_limit() {
-    for len in 0..140 {
-        let value: Vec<u8> = (0..len).map(|at| b"aeiost-/?~"[at * 7 % 10]).collect();
-        let mut sink = Sink::new(usize::MAX);
-        sink.put_huffman_encoded::<false>(&value).unwrap();
-        for limit in [0, 1, len.saturating_sub(1), len, len + 1, 16, 17, 64, 65, usize::MAX] {
-            let read = Octets::with_slice(&sink.bytes).get_huffman_decoded_with_max_length(limit);
-            assert_eq!(read.is_ok(), len <= limit, "{len} {limit}");
-            if let Ok(read) = read {
-                assert_eq!(read, value, "{limit}");
-                assert!(read.capacity() <= (2 * sink.bytes.len()).max(16));
-                assert!(len > 0 || read.capacity() == 0);
-            }
-        }
-    }
-}
-
-/// The code of "&" has eight bits, so a text of any length has as many bytes as its value. The code of "a" has five bits,
-/// and that of "~" has 13.
-#[test]
-fn values_of_each_length_have_the_lengths_of_their_texts() {
-    for len in 0..600_usize {
-        assert_eq!(huffman_encoding_len::<false>(&vec![b'&'; len]), Ok(len));
-        assert_eq!(huffman_encoding_len::<true>(&vec![b'&'; len]), Ok(len));
-        assert_eq!(huffman_encoding_len::<false>(&vec![b'a'; len]), Ok((5 * len).div_ceil(8)));
-        // The last byte of the value is the one whose code is longer.
-        let mut value = vec![b'a'; len];
-        value.push(b'~');
-        let text_len = (5 * len + 13).div_ceil(8);
-        let wanted = if text_len > value.len() { Err(BufferTooShortError) } else { Ok(text_len) };
-        assert_eq!(huffman_encoding_len::<false>(&value), wanted);
-    }
-}
-
-#[test]
-fn lower_case_changes_capital_letters_alone() {
-    let all: Vec<u8> = (0..=255).collect();
-    let (mut upper, mut lower) = (Sink::new(usize::MAX), Sink::new(usize::MAX));
-    upper.put_huffman_encoded::<true>(&all).unwrap();
-    lower.put_huffman_encoded::<false>(&all.to_ascii_lowercase()).unwrap();
-    assert_eq!(upper.bytes, lower.bytes);
-    assert_eq!(Octets::with_slice(&upper.bytes).get_huffman_decoded().unwrap(), all.to_ascii_lowercase());
-    assert!(huffman_encoding_len::<false>(&all).is_err());
-    // The Huffman code of "A" has six bits, and that of "a" has five.
-    assert_eq!(huffman_encoding_len::<false>(b"AAAAAAAA"), Ok(6));
-    assert_eq!(huffman_encoding_len::<true>(b"AAAAAAAA"), Ok(5));
-    assert_eq!(huffman_encoding_len::<true>(b"AAA"), Ok(2));
-}
-
 /// A sink gets a piece of eight bytes for each 64 bits, then one of four bytes if at least four are left, and then
 /// single bytes. The code of "a" has five bits.
 #[test]
@@ -123,20 +71,6 @@ fn a_sink_gets_its_pieces() {
         let mut sink = Sink::new(usize::MAX);
         sink.put_huffman_encoded::<false>(&vec![b'a'; count]).unwrap();
         assert_eq!(sink.sizes, sizes, "{count}");
-    }
-}
-
-/// The same for values of every length up to 300, and of lengths around each power of two up to 1 MiB.
-#[test]
-fn a_sink_gets_no_other_pieces_of_a_long_value() {
-    let long = (9..=20).flat_map(|power| [-1, 0, 1].map(|more| (1_usize << power).wrapping_add_signed(more)));
-    let value = vec![b'a'; (1 << 20) + 1];
-    for len in (0..300).chain(long) {
-        let mut sink = Sink::new(usize::MAX);
-        sink.put_huffman_encoded::<false>(&value[..len]).unwrap();
-        let (words, rest) = (5 * len / 64, (5 * len % 64).div_ceil(8));
-        let last = if rest < 4 { vec![1; rest] } else { [vec![4], vec![1; rest - 4]].concat() };
-        assert!(sink.sizes == [vec![8; words], last].concat(), "{len}");
     }
 }
 
@@ -182,88 +116,6 @@ fn a_long_value_is_encoded_as_one() {
     }
 }
 
-/// The code of `&` has eight bits, so the encoding is as long as the value, and with `?`, whose code has ten bits, it is
-/// longer by a byte. A number that is too narrow would cut the length.
-#[test]
-fn long_encodings_have_their_lengths() {
-    for bits in [8, 16, 24] {
-        let mut value = vec![b'&'; (1 << bits) + 5];
-        assert_eq!(huffman_encoding_len::<false>(&value), Ok(value.len()));
-        assert_eq!(huffman_encoding_len::<true>(&value), Ok(value.len()));
-        value.push(b'?');
-        assert_eq!(huffman_encoding_len::<false>(&value), Err(BufferTooShortError));
-        assert_eq!(huffman_encoding_len::<true>(&value), Err(BufferTooShortError));
-    }
-}
-
-/// Lengths, each a quarter greater than the one before.
-fn lengths() -> impl Iterator<Item = usize> {
-    let most = if cfg!(debug_assertions) { 20_000 } else { 70_000 };
-    std::iter::successors(Some(0), |len| Some(len + len / 4 + 1)).take_while(move |len| *len < most)
-}
-
-/// The code of "a" has five bits, and the code of "A" has six.
-#[test]
-fn no_length_of_a_value_is_special() {
-    for len in lengths() {
-        for (value, lower, bits) in [(b'a', false, 5), (b'A', false, 6), (b'A', true, 5)] {
-            let (value, text_len) = (vec![value; len], (bits * len).div_ceil(8));
-            let (counted, text) = match lower {
-                false => (huffman_encoding_len::<false>(&value), text_by_both::<false>(&value, text_len).unwrap()),
-                true => (huffman_encoding_len::<true>(&value), text_by_both::<true>(&value, text_len).unwrap()),
-            };
-            assert_eq!((counted, text.len()), (Ok(text_len), text_len), "{len}");
-            let mut room = vec![0; text_len];
-            let mut b = OctetsMut::with_slice(&mut room);
-            match lower {
-                false => b.put_huffman_encoded::<false>(&value).unwrap(),
-                true => b.put_huffman_encoded::<true>(&value).unwrap(),
-            }
-            assert!(room == text, "{len}");
-            let value = if lower { value.to_ascii_lowercase() } else { value };
-            let read = Octets::with_slice(&text).get_huffman_decoded_with_max_length(len).unwrap();
-            assert!(read == value && read.capacity() == len.min(2 * text_len), "{len}");
-            let read = Octets::with_slice(&text).get_huffman_decoded().unwrap();
-            assert!(read == value && read.capacity() == 2 * text_len, "{len}");
-        }
-    }
-}
-
-/// If an encoding doesn't fit, its first pieces are written: eight bytes for each 64 bits, then four bytes, then single bytes.
-#[test]
-fn a_long_value_that_does_not_fit_is_written_up_to_a_piece() {
-    for len in lengths().take_while(|len| *len < 2000) {
-        let value = vec![b'a'; len];
-        let text = text_by_both::<false>(&value, 2 * len).unwrap();
-        let words = 5 * len / 64;
-        let rest = text.len() - 8 * words;
-        let (fours, ones) = if rest >= 4 { (1, rest - 4) } else { (0, rest) };
-        let sizes = [vec![8; words], vec![4; fours], vec![1; ones]].concat();
-        let mut sink = Sink::new(usize::MAX);
-        sink.put_huffman_encoded::<false>(&value).unwrap();
-        assert_eq!(sink.sizes, sizes, "{len}");
-        for room in
-            (text.len().saturating_sub(20)..text.len()).chain([text.len() / 2, 0]).filter(|room| *room < text.len())
-        {
-            let ends = sizes.iter().scan(0, |end, size| {
-                *end += size;
-                Some(*end)
-            });
-            let fits = ends.take_while(|end| *end <= room).last().unwrap_or(0);
-            for by_trait in [false, true] {
-                let mut bytes = vec![0xee; room];
-                let mut b = OctetsMut::with_slice(&mut bytes);
-                let put = match by_trait {
-                    true => OctetsWriter::put_huffman_encoded::<false>(&mut b, &value),
-                    false => b.put_huffman_encoded::<false>(&value),
-                };
-                assert_eq!((put, b.off()), (Err(BufferTooShortError), fits), "{len} {room}");
-                assert!(bytes[..fits] == text[..fits] && bytes[fits..].iter().all(|byte| *byte == 0xee));
-            }
-        }
-    }
-}
-
 fn decoded(text: &[u8]) -> Vec<u8> {
     Octets::with_slice(text).get_huffman_decoded().unwrap()
 }
@@ -303,25 +155,6 @@ fn a_text_that_does_not_fit_is_written_up_to_a_piece() {
     assert_eq!(b.put_huffman_encoded::<false>(&[b'a'; 29]), Err(BufferTooShortError));
     assert_eq!(b.off(), 8);
     assert_eq!(bytes[8..], [0xee; 2]);
-}
-
-#[test]
-fn no_text_of_a_value_within_the_limit_is_refused() {
-    // These aren't encodings: the first ends with eight one bits, the second with zero bits, the third contains the
-    // code of the end, and the fourth is an incomplete code.
-    for text in [&[0x64, 0x02, 0xff][..], &[0x18, 0xc0], &[0xff, 0xff, 0xff, 0xff], &[0xff]] {
-        assert_eq!(Octets::with_slice(text).get_huffman_decoded(), Err(BufferTooShortError));
-    }
-    let (value, text) = ROWS[0];
-    for limit in 0..value.len() + 2 {
-        let mut b = Octets::with_slice(text);
-        let answer = b.get_huffman_decoded_with_max_length(limit);
-        assert_eq!(answer.is_ok(), limit >= value.len());
-    }
-    // The code of the fourth "a" ends within the third byte.
-    let mut b = Octets::with_slice(&[0x18, 0xc6, 0x31, 0x8c, 0x7f]);
-    assert!(b.get_huffman_decoded_with_max_length(3).is_err());
-    assert_eq!(b.off(), 3);
 }
 
 /// The code of "a" has five bits, wherever it is in the value.

@@ -134,6 +134,7 @@ fn no_varint_has_three_bytes() {
 fn bytes_are_written_whole_or_not_at_all() {
     let mut bytes = *b"......";
     let mut b = OctetsMut::with_slice(&mut bytes);
+    assert_eq!(OctetsWriter::put_bytes(&mut b, b"abcdefg"), Err(BufferTooShortError));
     b.put_bytes(b"abc").unwrap();
     assert_eq!(b.put_bytes(b"defg"), Err(BufferTooShortError));
     b.put_bytes(b"").unwrap();
