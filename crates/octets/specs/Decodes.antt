@@ -5,6 +5,7 @@ use Rattle.octets.specs.declared.error.DecodeError.{DecodeError}
 use Rattle.octets.specs.declared.error.DecodeError.TheVariants.{Short, Memory}
 use Rattle.octets.specs.Octets.{Octets}
 use Rattle.octets.specs.Cursor.{bytes, rest, Passes, IsUnchanged}
+use Rattle.octets.specs.Requests.{Granted, Refused}
 use Rattle.octets_code.specs.Answers.{IsAnswer, IsRefusal, AreSteps}
 use Rattle.octets_code.specs.Texts.{text, AreBytes}
 
@@ -55,6 +56,9 @@ pub record EndsDecode {A : Type 0} (old new : Octets) (m : ℕ) (r : Result (Vec
   pub same_bytes : bytes new ≡ bytes old
   -- an allocation can only fail if the decode asks for memory at all
   pub reserved : OnMemory r (0 < min (2 * length (rest old)) m)
+  -- it asks for this number of bytes, and fails with Memory exactly if this request is refused
+  pub granted : UnlessMemory r (Granted (min (2 * length (rest old)) m))
+  pub not_granted : OnMemory r (Refused (min (2 * length (rest old)) m))
   pub empty : rest old ≡ [] → IsOkAnd r (λ v. v.items ≡ [])
   pub small : IfOk r (λ v. vec_len v ≤ min (2 * length (rest old)) m)
   -- the capacity is twice the number of these bytes, or the limit if that is smaller

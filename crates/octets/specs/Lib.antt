@@ -1,3 +1,4 @@
+pub mod Requests
 pub mod Bytes
 pub mod Varints
 pub mod Cursor

@@ -1,5 +1,7 @@
 //! The cursor, over bytes that are only read or over bytes that are also written.
 ghost use Rattle.std.specs.Prelude.{◌≡◌, ◌↔◌, ◌+◌, ◌≤◌, ◌<◌, ◌^◌, [], length, IsTrue, IsOk, IfOk};
+ghost use Rattle.std.specs.Prelude.{OnOk, OnErr};
+ghost use Rattle.octets.specs.Requests.{Granted, Refused};
 
 pub mod buffer;
 mod decode;
@@ -8,6 +10,7 @@ pub mod read_only;
 mod reads;
 pub mod writable;
 
+use crate::memory::Request;
 use crate::slices::vec_of;
 use buffer::Bytes;
 use std::alloc::{AllocError, Global};
@@ -154,8 +157,12 @@ impl<B: Bytes> Cursor<B> {
     pub fn to_vec(&self, alloc: Global) -> Result<Vec<u8>, AllocError>
         ensures bytes { IfOk result (λ v. v.items ≡ rest self.now) }
         ensures empty { rest self.now ≡ [] → IsOk result }
+
+        // It asks for this number of bytes, and fails exactly if this request is refused.
+        ensures granted { OnOk result (Granted (length (rest self.now))) }
+        ensures refused { OnErr result (Refused (length (rest self.now))) }
     {
-        vec_of(alloc, self.as_ref())
+        vec_of(Request::to(alloc), self.as_ref())
     }
 }
 

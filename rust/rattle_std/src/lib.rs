@@ -86,19 +86,20 @@ pub mod traits {
     #[cfg(feature = "full")]
     pub use crate::{
         iter_in::IteratorIn,
+        slices::full::SliceIn,
         text::{RepeatIn, StrIn, ToStringIn},
         zip::{ZipIteratorInTurn, ZipOptionInTurn},
     };
-    pub use crate::slices::{AsChunks, SliceIn};
+    pub use crate::slices::AsChunks;
 }
 
 /// What each erased file imports: types, and the [traits], whose names stay free for a trait of the file.
 pub mod prelude {
-    pub use crate::traits::{AsChunks as _, SliceIn as _};
+    pub use crate::traits::AsChunks as _;
     pub use crate::vec::Vec;
     #[cfg(feature = "full")]
     pub use crate::{
         string::String,
-        traits::{IteratorIn as _, RepeatIn as _, StrIn as _, ToStringIn as _, ZipIteratorInTurn as _, ZipOptionInTurn as _},
+        traits::{IteratorIn as _, RepeatIn as _, SliceIn as _, StrIn as _, ToStringIn as _, ZipIteratorInTurn as _, ZipOptionInTurn as _},
     };
 }

@@ -111,6 +111,15 @@ impl<T: Copy> Vec<T> {
         made.0.extend_from_slice(values);
         Ok(made)
     }
+
+    /// Appends the values of a slice to the end. If the allocation fails, it returns an error and leaves the vector
+    /// unchanged.
+    #[inline]
+    pub fn extend_from_slice(&mut self, values: &[T]) -> Result<(), AllocError> {
+        self.0.try_reserve(values.len()).map_err(|_| AllocError)?;
+        self.0.extend_from_slice(values);
+        Ok(())
+    }
 }
 
 impl<T: fmt::Debug> fmt::Debug for Vec<T> {

@@ -1,7 +1,7 @@
 //! Tests of what the crate has without features. The tests of the rest are in `rattle_host`, which has the same names.
 use rattle_std::alloc::{AllocError, AllocFailed, Global};
 use rattle_std::prelude::*;
-use rattle_std::traits::{AsChunks, SliceIn};
+use rattle_std::traits::AsChunks;
 
 #[test]
 fn vectors_are_filled_copied_and_taken_apart() {
@@ -12,7 +12,10 @@ fn vectors_are_filled_copied_and_taken_apart() {
     values.push(3).unwrap();
     assert_eq!(*values, [1, 2, 3]);
     values.truncate(2);
-    assert_eq!((SliceIn::rattle_to_vec(&values[..], Global).unwrap(), Vec::from_slice(Global, &[1, 2]).unwrap()), (Vec::from(vec![1, 2]), Vec::from(vec![1, 2])));
+    assert_eq!(Vec::from_slice(Global, &[1, 2]).unwrap(), values);
+    values.extend_from_slice(&[5, 6]).unwrap();
+    assert_eq!(*values, [1, 2, 5, 6]);
+    values.truncate(2);
     assert_eq!(std::vec::Vec::from(values), [1, 2]);
     assert_eq!(Vec::from(vec![7, 8]).into_iter().map(|value| value + 1).collect::<std::vec::Vec<u8>>(), [8, 9]);
     assert!(Vec::<u8>::new(Global).is_empty());

@@ -21,6 +21,7 @@ use crate::error::{BufferTooShortError, DecodeError, IntoError};
 use crate::huffman::decode::fault::first_fault;
 use crate::huffman::decode::reading::{Refusal, read_text};
 use crate::huffman::decode::reserve;
+use crate::memory::Request;
 use octets_code::Steps;
 use std::alloc::Global;
 
@@ -136,8 +137,27 @@ impl<'a> Octets<'a> {
         ensures uncounted { OnMemory result (steps.new ≡ steps.old) }
         ensures two_each { steps.new ≤ steps.old + 2 * length (rest self.old) }
     {
+        self.decode(Request::to(alloc), max_len, steps)
+    }
+
+    /// Decodes as [`Octets::get_huffman_decoded_counted`] does, with one request for memory. The
+    /// other clauses of that call follow from these.
+    #[inline(always)]
+    fn decode(
+        &mut self,
+        request: Request,
+        max_len: usize,
+        steps: &mut Steps,
+    ) -> Result<Vec<u8>, DecodeError>
+        requires room { steps.old + 2 * length (rest self.old) < 2 ^ 128 }
+        ensures value { IfOk result (λ v. IsAnswer (rest self.old) max_len v.items) }
+        ensures every { WhereAnswer (rest self.old) max_len (λ v. Gives result v) }
+        ensures ends { EndsDecode self.old self.new max_len result }
+        ensures counted { UnlessMemory result (Counts (rest self.old) max_len steps.old steps.new) }
+        ensures uncounted { OnMemory result (steps.new ≡ steps.old) }
+    {
         let text = self.unread();
-        let mut value = reserve(alloc, text.len(), max_len)?;
+        let mut value = reserve(request, text.len(), max_len)?;
         match read_text(text, &mut value, max_len, steps) {
             Ok(()) => {
                 self.advance(text.len());

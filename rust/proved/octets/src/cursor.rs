@@ -9,6 +9,7 @@ pub mod read_only;
 mod reads;
 pub mod writable;
 
+use crate::memory::Request;
 use crate::slices::vec_of;
 use buffer::Bytes;
 use std::alloc::{AllocError, Global};
@@ -147,7 +148,7 @@ impl<B: Bytes> Cursor<B> {
     /// ```
     #[inline(always)]
     pub fn to_vec(&self, alloc: Global) -> Result<Vec<u8>, AllocError> {
-        vec_of(alloc, self.as_ref())
+        vec_of(Request::to(alloc), self.as_ref())
     }
 
     #[doc(hidden)]

@@ -15,6 +15,7 @@ mod error;
 mod huffman;
 #[doc(hidden)]
 pub mod laws;
+mod memory;
 mod number;
 mod sink_writes;
 mod slices;

@@ -3,7 +3,8 @@
 //! slice into a `Vec`.
 use rattle_std::{self as std, prelude::*};
 
-use std::alloc::{AllocError, Global};
+use crate::memory::Request;
+use std::alloc::AllocError;
 
 /// Returns its argument. A caller's proof learns from the clause `bytes` that each element is below
 /// 256.
@@ -14,9 +15,8 @@ pub(crate) fn known_bytes(bytes: &[u8]) -> &[u8] {
 
 /// Copies the bytes into a new `Vec`. An empty slice allocates nothing, so it can't fail.
 #[inline]
-pub(crate) fn vec_of(alloc: Global, bytes: &[u8]) -> Result<Vec<u8>, AllocError> {
-    if bytes.is_empty() {
-        return Ok(Vec::new(alloc));
-    }
-    bytes.rattle_to_vec(alloc)
+pub(crate) fn vec_of(request: Request, bytes: &[u8]) -> Result<Vec<u8>, AllocError> {
+    let mut copy = request.reserve(bytes.len())?;
+    copy.extend_from_slice(bytes)?;
+    Ok(copy)
 }

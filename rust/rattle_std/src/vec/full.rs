@@ -101,16 +101,6 @@ impl<T: Clone> Vec<T> {
     }
 }
 
-impl<T: Copy> Vec<T> {
-    /// Appends the values of a slice to the end. If the allocation fails, it returns an error and leaves the vector
-    /// unchanged.
-    pub fn extend_from_slice(&mut self, values: &[T]) -> Result<(), AllocError> {
-        self.reserve(values.len())?;
-        self.0.extend_from_slice(values);
-        Ok(())
-    }
-}
-
 impl<T> DerefMut for Vec<T> {
     #[inline]
     fn deref_mut(&mut self) -> &mut [T] {

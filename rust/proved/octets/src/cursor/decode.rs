@@ -15,6 +15,7 @@ use crate::error::{BufferTooShortError, DecodeError, IntoError};
 use crate::huffman::decode::fault::first_fault;
 use crate::huffman::decode::reading::{Refusal, read_text};
 use crate::huffman::decode::reserve;
+use crate::memory::Request;
 use octets_code::Steps;
 use std::alloc::Global;
 
@@ -92,8 +93,24 @@ impl<'a> Octets<'a> {
         max_len: usize,
         steps: &mut Steps,
     ) -> Result<Vec<u8>, DecodeError> {
+        self.decode(Request::to(alloc), max_len, steps)
+    }
+
+    /// Decodes as [`Octets::get_huffman_decoded_counted`] does, with one request for memory. The
+    /// other clauses of that call follow from these.
+    ///
+    /// # Requires
+    ///
+    /// - `steps.old + 2 * length (rest self.old) < 2 ^ 128`
+    #[inline(always)]
+    fn decode(
+        &mut self,
+        request: Request,
+        max_len: usize,
+        steps: &mut Steps,
+    ) -> Result<Vec<u8>, DecodeError> {
         let text = self.unread();
-        let mut value = reserve(alloc, text.len(), max_len)?;
+        let mut value = reserve(request, text.len(), max_len)?;
         match read_text(text, &mut value, max_len, steps) {
             Ok(()) => {
                 self.advance(text.len());

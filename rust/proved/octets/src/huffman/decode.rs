@@ -11,11 +11,12 @@ pub(crate) mod store;
 mod window;
 mod window_loop;
 
-use std::alloc::{AllocError, Global};
+use crate::memory::Request;
+use std::alloc::AllocError;
 
 /// Reserves capacity for the value of an encoding of `len` bytes within the limit: two bytes for
 /// each byte, since a code has more than four bits.
 #[inline]
-pub(crate) fn reserve(alloc: Global, len: usize, max_len: usize) -> Result<Vec<u8>, AllocError> {
-    Vec::with_capacity(alloc, len.saturating_mul(2).min(max_len))
+pub(crate) fn reserve(request: Request, len: usize, max_len: usize) -> Result<Vec<u8>, AllocError> {
+    request.reserve(len.saturating_mul(2).min(max_len))
 }

@@ -1,83 +1,50 @@
--- The result of `read_text` is for the slice of the bytes that remain. The clauses about every value follow by the
--- laws of texts: a text has one value under a limit.
-use Rattle.std.proofs.Common.{[], ◌∙◌, rules, arith}
-use Rattle.octets.specs.Cursor.{rest}
-use Rattle.octets.proofs.lemmas.CodeFacts.{answers_are_one, passed_within, steps_within, text_from}
-use Rattle.octets.proofs.lemmas.TextsRead.{empty_answer, text_answers, text_answered}
+-- The clauses by `text`, and the bound for the count, follow from those of `decode`.
+use Rattle.std.proofs.Common.{◌≡◌, ℕ, ◌+◌, ◌*◌, ◌≤◌, List, length, IfOk, Result, Ok, Err, Vec, arith}
+use Rattle.octets.specs.Decodes.{OnMemory, UnlessMemory, Counts}
+use Rattle.octets.specs.declared.error.DecodeError.{DecodeError}
+use Rattle.octets.specs.declared.error.DecodeError.TheVariants.{Short, Memory}
+use Rattle.octets_code.specs.Answers.{IsAnswer}
+use Rattle.octets_code.specs.Texts.{text, AreBytes}
+use Rattle.octets.proofs.lemmas.CodeFacts.{steps_within, text_from}
+use Rattle.octets.proofs.lemmas.TextsRead.{text_answers, text_answered}
 use Rattle.octets.proofs.cursor.decode.Octets.get_huffman_decoded_counted.Goals as goal
 
-pub advance-requires-in-Err : goal.advance-requires-in-Err
-advance-requires-in-Err c =
-    let refused = rw c.unread-text.ensures at c.in-Err.ensures.refused in
-    passed_within (rest c.args.self.now) c.args.max_len _ refused.1
+-- the bytes are the encoding of the value that is returned
+text_of : {A : Type 0} (r : Result (Vec ℕ A) DecodeError) (t : List ℕ) (m : ℕ)
+    → IfOk r (λ w. IsAnswer t m w.items) → IfOk r (λ w. t ≡ text w.items)
+text_of (Ok w) t m a = text_from _ _ a.2
+text_of (Err e) t m a = tt
 
-pub returns-in-Ok-clause-value : goal.returns-in-Ok-clause-value
-returns-in-Ok-clause-value c = rw c.unread-text.ensures at c.in-Ok.ensures.answer
+-- if they are the encoding of v, it is v, and within the limit
+one_of : {A : Type 0} (r : Result (Vec ℕ A) DecodeError) (t : List ℕ) (m : ℕ) (v : List ℕ)
+    → IfOk r (λ w. IsAnswer t m w.items) → AreBytes v → t ≡ text v → IfOk r (λ w. w.items ≡ v)
+one_of (Ok w) t m v a h e = (text_answered v _ _ m h e a).0
+one_of (Err e) t m v a h x = tt
 
-pub returns-in-Ok-clause-every : goal.returns-in-Ok-clause-every
-returns-in-Ok-clause-every c =
-    λ v a. (answers_are_one (rest c.args.self.now) c.args.max_len).0 _ v (returns-in-Ok-clause-value c) a
+limit_of : {A : Type 0} (r : Result (Vec ℕ A) DecodeError) (t : List ℕ) (m : ℕ) (v : List ℕ)
+    → IfOk r (λ w. IsAnswer t m w.items) → AreBytes v → t ≡ text v → IfOk r (λ _. length v ≤ m)
+limit_of (Ok w) t m v a h e = (text_answered v _ _ m h e a).1
+limit_of (Err e) t m v a h x = tt
 
-pub returns-in-Ok-clause-text : goal.returns-in-Ok-clause-text
-returns-in-Ok-clause-text c = text_from _ _ (returns-in-Ok-clause-value c).2
+-- at most two steps are counted for each byte
+two_each : {A : Type 0} (r : Result A DecodeError) (t : List ℕ) (m old new : ℕ)
+    → UnlessMemory r (Counts t m old new) → OnMemory r (new ≡ old) → new ≤ old + 2 * length t
+two_each (Ok w) t m old new n same = omega (arith, n.2, steps_within t m n.0 n.1)
+two_each (Err (Short e)) t m old new n same = omega (arith, n.2, steps_within t m n.0 n.1)
+two_each (Err (Memory e)) t m old new n same = omega (arith, same)
 
-pub returns-in-Ok-clause-one : goal.returns-in-Ok-clause-one
-returns-in-Ok-clause-one c = λ v h e. (text_answered v _ _ c.args.max_len h e (returns-in-Ok-clause-value c)).0
+pub returns-clause-text : goal.returns-clause-text
+returns-clause-text c = text_of _ _ c.args.max_len c.decode.ensures.value
 
-pub returns-in-Ok-clause-limit : goal.returns-in-Ok-clause-limit
-returns-in-Ok-clause-limit c = λ v h e. (text_answered v _ _ c.args.max_len h e (returns-in-Ok-clause-value c)).1
+pub returns-clause-one : goal.returns-clause-one
+returns-clause-one c = λ v h e. one_of _ _ c.args.max_len v c.decode.ensures.value h e
 
-pub returns-in-Ok-clause-given : goal.returns-in-Ok-clause-given
-returns-in-Ok-clause-given c = λ v h e few. (text_answered v _ _ c.args.max_len h e (returns-in-Ok-clause-value c)).0
+pub returns-clause-limit : goal.returns-clause-limit
+returns-clause-limit c = λ v h e. limit_of _ _ c.args.max_len v c.decode.ensures.value h e
 
-pub returns-in-Err-clause-given : goal.returns-in-Err-clause-given
-returns-in-Err-clause-given c =
-    let refused = rw c.unread-text.ensures at c.in-Err.ensures.refused in
-    λ v h e few. refused.0 v (text_answers v _ c.args.max_len h e few)
+pub returns-clause-given : goal.returns-clause-given
+returns-clause-given c = λ v h e few. c.decode.ensures.every v (text_answers v _ c.args.max_len h e few)
 
-pub returns-in-Ok-clause-ends : goal.returns-in-Ok-clause-ends
-returns-in-Ok-clause-ends c =
-    record {
-      passed = search rules;
-      refused = tt;
-      unread = tt;
-      same_bytes = search rules;
-      reserved = tt;
-      empty = λ e. (answers_are_one (rest c.args.self.now) c.args.max_len).0 _ []
-          (returns-in-Ok-clause-value c) (empty_answer (rest c.args.self.now) c.args.max_len e);
-      small = search rules;
-      capacity = c.read_text.ensures.added.1 ∙ rw c.unread-text.ensures at c.in_ok-value.ensures.room;
-    }
-
-pub returns-in-Ok-clause-counted : goal.returns-in-Ok-clause-counted
-returns-in-Ok-clause-counted c = rw c.unread-text.ensures at c.read_text.ensures.counted
-
-pub returns-in-Ok-clause-two_each : goal.returns-in-Ok-clause-two_each
-returns-in-Ok-clause-two_each c = let n = returns-in-Ok-clause-counted c in
-    omega (arith, n.2, steps_within (rest c.args.self.now) c.args.max_len n.0 n.1)
-
-pub returns-in-Err-clause-ends : goal.returns-in-Err-clause-ends
-returns-in-Err-clause-ends c =
-    let refused = rw c.unread-text.ensures at c.in-Err.ensures.refused in
-    record {
-      passed = tt;
-      refused = (_, refused, search rules);
-      unread = tt;
-      same_bytes = search rules;
-      reserved = tt;
-      empty = λ e. refused.0 [] (empty_answer (rest c.args.self.now) c.args.max_len e);
-      small = tt;
-      capacity = tt;
-    }
-
-pub returns-in-Err-clause-counted : goal.returns-in-Err-clause-counted
-returns-in-Err-clause-counted c = rw c.unread-text.ensures at c.read_text.ensures.counted
-
-pub returns-in-Err-clause-two_each : goal.returns-in-Err-clause-two_each
-returns-in-Err-clause-two_each c = let n = returns-in-Err-clause-counted c in
-    omega (arith, n.2, steps_within (rest c.args.self.now) c.args.max_len n.0 n.1)
-
-pub returns-in-Err-clause-every : goal.returns-in-Err-clause-every
-returns-in-Err-clause-every c =
-    let refused = rw c.unread-text.ensures at c.in-Err.ensures.refused in
-    λ v a. refused.0 v a
+pub returns-clause-two_each : goal.returns-clause-two_each
+returns-clause-two_each c =
+    two_each _ _ c.args.max_len _ _ c.decode.ensures.counted c.decode.ensures.uncounted
