@@ -1,11 +1,12 @@
 -- Literals one after another.
-use Rattle.std.proofs.Common.{◌≡◌, ℕ, ◌<◌, ◌≤◌, inl, inr, List, [], ◌∷◌, ◌++◌, length, drop, map, Vec, refl, sym}
+use Rattle.std.proofs.Common.{◌≡◌, ℕ, ◌+◌, ◌<◌, ◌≤◌, inl, inr, List, [], ◌∷◌, ◌++◌, length, drop, map, Vec, refl, sym}
 use Rattle.std.proofs.Common.{subst, ap, arith, length-append}
 use Rattle.std.proofs.lemmas.Grind.{common_steps}
 use Rattle.std.proofs.lemmas.List.{append-nil, map-append}
 use Rattle.std.proofs.lemmas.List.Elements.{All-head, All-tail, All-map, All-push, All-same}
 use Rattle.std.specs.List.{All}
 use Rattle.octets.proofs.lemmas.Outcomes.{same_rest}
+use Rattle.octets.specs.Requests.{Refused}
 use Rattle.octets_literal.specs.Literals.{BeginsLiteral, AreLiterals}
 use Rattle.octets_literal.specs.Faults.{IsRefused, StopsAt}
 use Rattle.octets_literal.specs.declared.error.LiteralError.{LiteralError}
@@ -112,16 +113,21 @@ stops_at l ws r t m why a w e some refused = rw e (record {
   refused = inl (some, refused);
 })
 
+one_more : {A : Type 0} (ws : List (Vec ℕ A)) (v : List ℕ)
+    → length (map (λ x. x.items) ws ++ (v ∷ [])) ≡ length ws + 1
+one_more ws v = grind (arith, common_steps)
+
 -- a reader stops after a literal whose value didn't fit into the list
 pub stops_behind : {A : Type 0} (l : List ℕ) (ws : List (Vec ℕ A)) (r t : List ℕ) (m k : ℕ) (v : List ℕ)
     → AreLiterals l (map (λ w. w.items) ws) r
-    → All (λ w. length w.items ≤ m) ws → BeginsLiteral r k v → length v ≤ m → t ≡ drop k r → StopsAt l t m OutOfMemory
-stops_behind l ws r t m k v a w b small e = rw e (record {
+    → All (λ w. length w.items ≤ m) ws → BeginsLiteral r k v → length v ≤ m → t ≡ drop k r
+    → Refused (length ws + 1) → StopsAt l t m OutOfMemory
+stops_behind l ws r t m k v a w b small e n = rw e (record {
   values = map (λ x. x.items) ws ++ (v ∷ []);
   read = literals_more l (map (λ x. x.items) ws) r k v a b;
   within =
       All-push (λ x. length x ≤ m) (map (λ x. x.items) ws) v (All-map (λ x. length x ≤ m) (λ x. x.items) ws w) small;
-  refused = inr (refl, omega (arith, length-append (map (λ x. x.items) ws) (v ∷ [])));
+  refused = let sum = one_more ws v in inr (refl, omega (arith, sum), subst Refused (sym sum) n);
 })
 
 -- at a reader of literals up to the end

@@ -5,6 +5,7 @@ use Rattle.octets_code.specs.Texts.{AreBytes, IsText}
 use Rattle.octets_code.specs.Answers.{IsAnswer, HasNoAnswer}
 use Rattle.octets_code.proofs.TextLemmas.{each_byte}
 use Rattle.octets.specs.Cursor.{bytes, position, rest}
+use Rattle.octets.specs.Requests.{Refused}
 use Rattle.octets.specs.Octets.{Octets}
 use Rattle.octets.specs.Reading.{IsReadBefore}
 use Rattle.octets.specs.Stops.{IsStoppedBy}
@@ -27,9 +28,10 @@ unfolding AreData
 is_plain d m v b h e = grind (arith, common_steps)
 
 -- a copy of plain data within the limit needs memory if there are any
-pub needs_memory : (d : List ℕ) (m : ℕ) → 0 < length d → length d ≤ m → IsNoValue false d m OutOfMemory
+pub needs_memory : (d r : List ℕ) (m : ℕ) → r ≡ d → 0 < length d → length d ≤ m → Refused (length r)
+    → IsNoValue false d m OutOfMemory
 unfolding IsNoValue NeedMemory
-needs_memory d m h k = (h, k)
+needs_memory d r m e h k n = (h, k, subst (λ x. Refused (length x)) e n)
 
 -- if a copy of some bytes failed, there is at least one byte
 pub some_bytes : (d r : List ℕ) → r ≡ d → (r ≡ [] → false ≡ true) → 0 < length d
@@ -51,9 +53,11 @@ unfolding IsNoValue HaveNoValue
 is_undecoded r d m e h = subst (λ t. HasNoAnswer t m) e h
 
 -- data that are a text need memory if memory is allocated for a value
-pub needs_room : (r d : List ℕ) (m : ℕ) → r ≡ d → 0 < min (2 * length r) m → IsNoValue true d m OutOfMemory
+pub needs_room : (r d : List ℕ) (m : ℕ) → r ≡ d → 0 < min (2 * length r) m → Refused (min (2 * length r) m)
+    → IsNoValue true d m OutOfMemory
 unfolding IsNoValue NeedMemory
-needs_room r d m e h = (omega (arith, h, ap length e), omega (arith, h))
+needs_room r d m e h n =
+    (omega (arith, h, ap length e), omega (arith, h), subst (λ x. Refused (min (2 * length x) m)) e n)
 
 -- plain data leave the slice as it was
 pub nothing_read : (d l : List ℕ) → LeavesRead false d l l

@@ -1,9 +1,10 @@
 -- Why bytes don't begin with a literal of a value within a limit.
-use Rattle.std.specs.Prelude.{◌≡◌, ◌⊎◌, ℕ, ◌+◌, ◌%◌, ◌<◌, ◌≤◌, Bool, true, false}
+use Rattle.std.specs.Prelude.{◌≡◌, ◌⊎◌, ℕ, ◌+◌, ◌*◌, ◌%◌, ◌<◌, ◌≤◌, Bool, true, false, min}
 use Rattle.std.specs.Prelude.{List, [], ◌∷◌, length, take, Result, MatchResult, Vec}
 use Rattle.std.specs.List.{All}
 use Rattle.octets_code.specs.Answers.{HasNoAnswer}
 use Rattle.octets.specs.Bytes.{part}
+use Rattle.octets.specs.Requests.{Refused}
 use Rattle.octets_literal.specs.Integers.{BeginsInteger}
 use Rattle.octets_literal.specs.Literals.{IsLength, AreLiterals}
 use Rattle.octets_literal.specs.declared.error.LiteralError.{LiteralError}
@@ -53,10 +54,11 @@ unfoldable pub HaveNoValue : ℕ → Bool → List ℕ → Type 0
 HaveNoValue m true d = HasNoAnswer d m
 HaveNoValue m false d = m < length d
 
--- memory is needed for the value of the data: there are data, and they may have a value within the limit
+-- memory is needed for the value of the data: there are data, and they may have a value within the limit. The
+-- request for this memory was refused.
 unfoldable pub NeedMemory : ℕ → Bool → List ℕ → Type 0
-NeedMemory m true d = (0 < length d) × (0 < m)
-NeedMemory m false d = (0 < length d) × (length d ≤ m)
+NeedMemory m true d = (0 < length d) × (0 < m) × Refused (min (2 * length d) m)
+NeedMemory m false d = (0 < length d) × (length d ≤ m) × Refused (length d)
 
 -- under the limit m a read of l fails with this error
 unfoldable pub IsRefused : List ℕ → ℕ → LiteralError → Type 0
@@ -70,9 +72,10 @@ abbrev pub GivesString : {A : Type 0} → Result (Vec ℕ A) LiteralError → Li
 GivesString r v = MatchResult r (λ w. w.items ≡ v) (λ e. e ≡ OutOfMemory)
 
 -- l begins with literals of values within the limit m, and r follows them. Either r isn't empty, and a read of r
--- fails with the error; or the list couldn't grow for the last of these values, and the error is OutOfMemory.
+-- fails with the error; or the list couldn't grow for the last of these values, and the error is OutOfMemory: a request
+-- for a list of so many values was refused.
 pub record StopsAt (l r : List ℕ) (m : ℕ) (why : LiteralError) : Type 0 where
   pub values : List (List ℕ)
   pub read : AreLiterals l values r
   pub within : All (λ v. length v ≤ m) values
-  pub refused : ((0 < length r) × IsRefused r m why) ⊎ ((why ≡ OutOfMemory) × (0 < length values))
+  pub refused : ((0 < length r) × IsRefused r m why) ⊎ ((why ≡ OutOfMemory) × (0 < length values) × Refused (length values))

@@ -10,6 +10,7 @@ mod get_into;
 pub mod laws;
 mod length;
 mod list;
+mod memory;
 mod put;
 mod write;
 

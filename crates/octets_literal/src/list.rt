@@ -8,6 +8,7 @@ ghost use Rattle.octets_literal.specs.declared.error.LiteralError.TheVariants.{O
 
 use crate::error::LiteralError;
 use crate::get::get_string;
+use crate::memory::append;
 use octets::Octets;
 use std::alloc::Global;
 
@@ -43,14 +44,14 @@ pub fn get_strings(
     ensures passed { OnOk result (rest cursor.new ≡ []) }
 
     // The offset is after literals of such values. Either a read of what follows fails, or the list
-    // couldn't grow for the last value.
+    // couldn't grow for the last value, since a request for memory was refused.
     ensures refused { IfErr result (StopsAt (rest cursor.old) (rest cursor.new) max_len) }
     ensures same_bytes { bytes cursor.new ≡ bytes cursor.old }
 {
     let mut values = Vec::new(alloc);
     'literals: while cursor.cap() > 0 {
         let value = get_string(alloc, cursor, max_len)?;
-        if values.push(value).is_err() {
+        if append(&mut values, value).is_err() {
             return Err(LiteralError::OutOfMemory);
         }
     }

@@ -6,6 +6,7 @@ mod command;
 mod copied;
 #[doc(hidden)]
 pub mod laws;
+mod memory;
 mod over;
 mod perform;
 mod reply;

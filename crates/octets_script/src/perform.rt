@@ -2,6 +2,7 @@
 ghost use Rattle.std.specs.Prelude.{IfOk, OnErr};
 ghost use Rattle.octets_script.specs.Calls.{call_of};
 ghost use Rattle.octets_script.specs.Runs.{AnswersLeaving, RefusedForMemory};
+ghost use Rattle.octets.specs.Requests.{WasRefused};
 
 mod halves;
 mod loans;
@@ -27,6 +28,7 @@ pub(crate) fn perform(
     ensures answers { IfOk result (λ r.
         AnswersLeaving (call_of command.now) cursor.old r cursor.new) }
     ensures refused { OnErr result (RefusedForMemory (call_of command.now) cursor.old cursor.new) }
+    ensures memory { OnErr result WasRefused }
 {
     match command {
         Command::GetU8 => Ok(numbers::get_u8(cursor)),

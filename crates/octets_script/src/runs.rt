@@ -1,12 +1,14 @@
 //! The function that performs a list of commands in order.
 ghost use Rattle.std.specs.Prelude.{◌≡◌, ◌<◌, length, take, map, slice_get};
-ghost use Rattle.std.specs.Prelude.{vec_len, IfSome, IfOk, IfErr};
+ghost use Rattle.std.specs.Prelude.{vec_len, IfSome, IfOk, IfErr, OnErr};
 ghost use Rattle.octets.specs.Cursor.{bytes, position};
 ghost use Rattle.octets.specs.Slices.{reference};
 ghost use Rattle.octets_script.specs.Calls.{call_of, answer_of};
+ghost use Rattle.octets.specs.Requests.{WasRefused};
 ghost use Rattle.octets_script.specs.Plays.{Plays, NeedsRoom};
 
 use crate::command::Command;
+use crate::memory::list_of;
 use crate::perform::perform;
 use crate::reply::{Reply, Stopped};
 use octets::OctetsMut;
@@ -38,9 +40,12 @@ pub fn run(
     ensures needs_room { IfErr result (λ s. 0 < s.done →
         IfSome (slice_get commands.now s.done)
         (λ c. NeedsRoom (call_of c) (bytes cursor.new) (position cursor.new))) }
+
+    // It stopped because a request for memory was refused.
+    ensures memory { OnErr result WasRefused }
     ensures same_reference { reference cursor.new ≡ reference cursor.old }
 {
-    let mut replies = match Vec::with_capacity(alloc, commands.len()) {
+    let mut replies = match list_of(alloc, commands.len()) {
         Ok(replies) => replies,
         Err(_) => return Err(Stopped {
             replies: Vec::new(alloc),

@@ -5,6 +5,7 @@ ghost use Rattle.std.specs.Prelude.{◌≡◌, ◌+◌, ◌<◌, ◌≤◌, leng
 ghost use Rattle.octets.specs.Cursor.{bytes};
 ghost use Rattle.octets_script.specs.Runs.{AnswersLeaving, RefusedForMemory};
 ghost use Rattle.octets_script.specs.Calls.{Call};
+ghost use Rattle.octets.specs.Requests.{WasRefused};
 
 use crate::copied::copied;
 use crate::over::halves::over_halves;
@@ -24,6 +25,7 @@ pub(crate) fn split_at(
         AnswersLeaving (Call.SplitAt off left.now right.now) cursor.old r cursor.new) }
     ensures refused { OnErr result
         (RefusedForMemory (Call.SplitAt off left.now right.now) cursor.old cursor.new) }
+    ensures memory { OnErr result WasRefused }
 {
     let (before, after) = copied_halves(alloc, cursor, off)?;
     match over_halves(cursor, off, left, right) {
@@ -46,6 +48,7 @@ fn copied_halves(
     ensures there { OnErr result (off ≤ length (bytes cursor.now)) }
     ensures some { OnErr result
         (0 < length (take off (bytes cursor.now)) + length (drop off (bytes cursor.now))) }
+    ensures memory { OnErr result WasRefused }
 {
     if off > cursor.len() {
         return Ok((Vec::new(alloc), Vec::new(alloc)));

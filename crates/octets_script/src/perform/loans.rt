@@ -5,6 +5,7 @@ ghost use Rattle.std.specs.Prelude.{◌≡◌, ◌-◌, ◌<◌, ◌≤◌, leng
 ghost use Rattle.octets.specs.Cursor.{bytes, rest};
 ghost use Rattle.octets_script.specs.Runs.{AnswersLeaving, RefusedForMemory};
 ghost use Rattle.octets_script.specs.Calls.{Call};
+ghost use Rattle.octets.specs.Requests.{WasRefused};
 
 use crate::copied::copied;
 use crate::over::slices::{over_last, over_slice, write_over};
@@ -23,6 +24,7 @@ pub(crate) fn get_bytes_mut(
         AnswersLeaving (Call.GetBytesMut len w.now) cursor.old r cursor.new) }
     ensures refused { OnErr result
         (RefusedForMemory (Call.GetBytesMut len w.now) cursor.old cursor.new) }
+    ensures memory { OnErr result WasRefused }
 {
     let before = next_bytes(alloc, cursor, len)?;
     Ok(bytes_or_short(over_next(cursor, len, w), before))
@@ -38,6 +40,7 @@ pub(crate) fn peek_bytes_mut(
         AnswersLeaving (Call.PeekBytesMut len w.now) cursor.old r cursor.new) }
     ensures refused { OnErr result
         (RefusedForMemory (Call.PeekBytesMut len w.now) cursor.old cursor.new) }
+    ensures memory { OnErr result WasRefused }
 {
     let before = next_bytes(alloc, cursor, len)?;
     Ok(bytes_or_short(over_peeked(cursor, len, w), before))
@@ -52,6 +55,7 @@ pub(crate) fn slice(
     ensures answers { IfOk result (λ r.
         AnswersLeaving (Call.Slice len w.now) cursor.old r cursor.new) }
     ensures refused { OnErr result (RefusedForMemory (Call.Slice len w.now) cursor.old cursor.new) }
+    ensures memory { OnErr result WasRefused }
 {
     let before = next_bytes(alloc, cursor, len)?;
     Ok(bytes_or_short(over_slice(cursor, len, w), before))
@@ -67,6 +71,7 @@ pub(crate) fn slice_last(
         AnswersLeaving (Call.SliceLast len w.now) cursor.old r cursor.new) }
     ensures refused { OnErr result
         (RefusedForMemory (Call.SliceLast len w.now) cursor.old cursor.new) }
+    ensures memory { OnErr result WasRefused }
 {
     let before = last_bytes(alloc, cursor, len)?;
     Ok(bytes_or_short(over_last(cursor, len, w), before))
@@ -80,6 +85,7 @@ pub(crate) fn as_mut(
 ) -> Result<Reply, AllocError>
     ensures answers { IfOk result (λ r. AnswersLeaving (Call.AsMut w.now) cursor.old r cursor.new) }
     ensures refused { OnErr result (RefusedForMemory (Call.AsMut w.now) cursor.old cursor.new) }
+    ensures memory { OnErr result WasRefused }
 {
     let before = cursor.to_vec(alloc)?;
     write_over(cursor.as_mut(), w);
@@ -93,6 +99,7 @@ fn next_bytes(alloc: Global, cursor: &OctetsMut<'_>, len: usize) -> Result<Vec<u
         len ≤ length (rest cursor.now) → b.items ≡ take len (rest cursor.now)) }
     ensures there { OnErr result (len ≤ length (rest cursor.now)) }
     ensures some { OnErr result (0 < length (take len (rest cursor.now))) }
+    ensures memory { OnErr result WasRefused }
 {
     if len > cursor.cap() {
         return Ok(Vec::new(alloc));
@@ -109,6 +116,7 @@ fn last_bytes(alloc: Global, cursor: &OctetsMut<'_>, len: usize) -> Result<Vec<u
     ensures there { OnErr result (len ≤ length (rest cursor.now)) }
     ensures some { OnErr result
         (0 < length (drop (length (bytes cursor.now) - len) (bytes cursor.now))) }
+    ensures memory { OnErr result WasRefused }
 {
     if len > cursor.cap() {
         return Ok(Vec::new(alloc));

@@ -4,6 +4,7 @@ ghost use Rattle.octets.specs.Cursor.{bytes, position};
 ghost use Rattle.octets_script.specs.Runs.{AnswersUnmoved};
 ghost use Rattle.octets_script.specs.Calls.{Call};
 ghost use Rattle.octets_script.specs.Plays.{NeedsRoom};
+ghost use Rattle.octets.specs.Requests.{WasRefused};
 
 use crate::copied::copied;
 use crate::reply::Reply;
@@ -37,6 +38,7 @@ pub(crate) fn is_empty(cursor: &OctetsMut<'_>) -> Reply
 pub(crate) fn buf(alloc: Global, cursor: &OctetsMut<'_>) -> Result<Reply, AllocError>
     ensures tells { IfOk result (AnswersUnmoved Call.Buf cursor.now) }
     ensures refused { OnErr result (NeedsRoom Call.Buf (bytes cursor.now) (position cursor.now)) }
+    ensures memory { OnErr result WasRefused }
 {
     Ok(Reply::Bytes(copied(alloc, cursor.buf())?))
 }
@@ -44,6 +46,7 @@ pub(crate) fn buf(alloc: Global, cursor: &OctetsMut<'_>) -> Result<Reply, AllocE
 pub(crate) fn to_vec(alloc: Global, cursor: &OctetsMut<'_>) -> Result<Reply, AllocError>
     ensures tells { IfOk result (AnswersUnmoved Call.ToVec cursor.now) }
     ensures refused { OnErr result (NeedsRoom Call.ToVec (bytes cursor.now) (position cursor.now)) }
+    ensures memory { OnErr result WasRefused }
 {
     Ok(Reply::Bytes(cursor.to_vec(alloc)?))
 }

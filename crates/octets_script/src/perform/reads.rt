@@ -4,6 +4,7 @@ ghost use Rattle.octets.specs.Cursor.{bytes, position};
 ghost use Rattle.octets.specs.Slices.{reference};
 ghost use Rattle.octets_script.specs.Runs.{AnswersLeaving, RefusedForMemory};
 ghost use Rattle.octets_script.specs.Calls.{Call, Answer, answer_of};
+ghost use Rattle.octets.specs.Requests.{WasRefused};
 
 use crate::copied::copied;
 use crate::reply::Reply;
@@ -18,6 +19,7 @@ pub(crate) fn peek_bytes(
     ensures answers { IfOk result (λ r.
         AnswersLeaving (Call.PeekBytes len) cursor.old r cursor.new) }
     ensures refused { OnErr result (RefusedForMemory (Call.PeekBytes len) cursor.old cursor.new) }
+    ensures memory { OnErr result WasRefused }
 {
     copied_reply(alloc, cursor.peek_bytes(len))
 }
@@ -30,6 +32,7 @@ pub(crate) fn get_bytes(
     ensures answers { IfOk result (λ r.
         AnswersLeaving (Call.GetBytes len) cursor.old r cursor.new) }
     ensures refused { OnErr result (RefusedForMemory (Call.GetBytes len) cursor.old cursor.new) }
+    ensures memory { OnErr result WasRefused }
 {
     let from = cursor.off();
     let reply = copied_reply(alloc, cursor.get_bytes(len));
@@ -43,6 +46,7 @@ pub(crate) fn get_bytes_with_u8_length(
 ) -> Result<Reply, AllocError>
     ensures answers { IfOk result (λ r. AnswersLeaving Call.GetBytesU8 cursor.old r cursor.new) }
     ensures refused { OnErr result (RefusedForMemory Call.GetBytesU8 cursor.old cursor.new) }
+    ensures memory { OnErr result WasRefused }
 {
     let from = cursor.off();
     let reply = copied_reply(alloc, cursor.get_bytes_with_u8_length());
@@ -56,6 +60,7 @@ pub(crate) fn get_bytes_with_u16_length(
 ) -> Result<Reply, AllocError>
     ensures answers { IfOk result (λ r. AnswersLeaving Call.GetBytesU16 cursor.old r cursor.new) }
     ensures refused { OnErr result (RefusedForMemory Call.GetBytesU16 cursor.old cursor.new) }
+    ensures memory { OnErr result WasRefused }
 {
     let from = cursor.off();
     let reply = copied_reply(alloc, cursor.get_bytes_with_u16_length());
@@ -69,6 +74,7 @@ pub(crate) fn get_bytes_with_varint_length(
     ensures answers { IfOk result (λ r.
         AnswersLeaving Call.GetBytesVarint cursor.old r cursor.new) }
     ensures refused { OnErr result (RefusedForMemory Call.GetBytesVarint cursor.old cursor.new) }
+    ensures memory { OnErr result WasRefused }
 {
     let from = cursor.off();
     let reply = copied_reply(alloc, cursor.get_bytes_with_varint_length());
@@ -81,6 +87,7 @@ fn copied_reply(alloc: Global, lent: octets::Result<Octets<'_>>) -> Result<Reply
         (λ r. answer_of r ≡ Answer.Bytes (bytes v))) }
     ensures refused { IfOk lent.entry (λ v. OnErr result (0 < length (bytes v))) }
     ensures short { OnErr lent.entry (result ≡ Ok Reply.Short) }
+    ensures memory { OnErr result WasRefused }
 {
     match lent {
         Ok(view) => Ok(Reply::Bytes(copied(alloc, view.buf())?)),

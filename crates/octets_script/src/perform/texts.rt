@@ -2,6 +2,7 @@
 ghost use Rattle.std.specs.Prelude.{IfOk, OnErr};
 ghost use Rattle.octets_script.specs.Runs.{AnswersLeaving, RefusedForMemory};
 ghost use Rattle.octets_script.specs.Calls.{Call};
+ghost use Rattle.octets.specs.Requests.{WasRefused};
 
 use crate::reply::{Reply, done_or_short};
 use octets::{DecodeError, Octets, OctetsMut};
@@ -29,6 +30,7 @@ pub(crate) fn decode(
     ensures answers { IfOk result (λ r.
         AnswersLeaving (Call.Decode max_len) cursor.old r cursor.new) }
     ensures refused { OnErr result (RefusedForMemory (Call.Decode max_len) cursor.old cursor.new) }
+    ensures memory { OnErr result WasRefused }
 {
     // Only a cursor for reading decodes, so a second one reads what remains.
     let mut remaining = Octets::with_slice(cursor.as_ref());

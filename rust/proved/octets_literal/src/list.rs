@@ -4,6 +4,7 @@ use rattle_std::{self as std, prelude::*};
 
 use crate::error::LiteralError;
 use crate::get::get_string;
+use crate::memory::append;
 use octets::Octets;
 use std::alloc::Global;
 
@@ -30,7 +31,7 @@ pub fn get_strings(
     let mut values = Vec::new(alloc);
     'literals: while cursor.cap() > 0 {
         let value = get_string(alloc, cursor, max_len)?;
-        if values.push(value).is_err() {
+        if append(&mut values, value).is_err() {
             return Err(LiteralError::OutOfMemory);
         }
     }

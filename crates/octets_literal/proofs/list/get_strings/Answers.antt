@@ -21,7 +21,8 @@ returns-in_err-value-clause-refused c =
 pub literals-preserved : goal.literals-preserved
 literals-preserved c = record {
   read = grind (arith, literals_pushed);
-  within = grind (arith, within_more);
+  within = within_more _ c.literals.values.items c.append.new.list.items c.in_ok-value.value (grind arith)
+      c.literals.invariant.within c.in_ok-value.ensures.within;
   same = grind arith;
 }
 
