@@ -10,6 +10,8 @@ pub mod Outcomes
 -- Writes: splices of a buffer.
 pub mod Splices
 pub mod Writes
+-- What the model says of calls.
+pub mod Performs
 -- Huffman texts: their codes, how they are read, and how they are given.
 pub mod CodeFacts
 pub mod CasedCodes

@@ -9,6 +9,23 @@ use Rattle.octets.specs.declared.cursor.Cursor.{Cursor}
 use Rattle.octets.specs.contracts.cursor.Cursor.{the_row}
 use Rattle.octets.specs.Cursor.{rest, Passes, IsUnchanged}
 
+module _ {X : Type 0} {g : Ghosts X} where
+  -- c is s past n bytes if r is Ok, and s unchanged if r is an error
+  abbrev pub IsPast : {T E : Type 0} → Cursor X g → Result T E → ℕ → Cursor X g → Type 0
+  IsPast s r n c = OnOk r (Passes s c n) × OnErr r (IsUnchanged s c)
+
+  -- c is s past a number of w bytes and as many bytes as it says. If fewer bytes follow, c is s past the
+  -- number. If the number is incomplete, c is s unchanged.
+  abbrev pub IsPastPrefix : {T E : Type 0} → Cursor X g → Result T E → ℕ → Cursor X g → Type 0
+  IsPastPrefix s r w c = OnOk r (Passes s c (w + number (take w (rest s))))
+      × (w ≤ length (rest s) → OnErr r (Passes s c w)) × (length (rest s) < w → IsUnchanged s c)
+
+  -- the same for a length that is a varint
+  abbrev pub IsPastVarint : {T E : Type 0} → Cursor X g → Result T E → Cursor X g → Type 0
+  IsPastVarint s r c =
+      ((w n : ℕ) → BeginsVarint (rest s) w n → OnOk r (Passes s c (w + n)) × OnErr r (Passes s c w))
+      × (HasNoVarint (rest s) → IsUnchanged s c)
+
 module _ (B : RattleType) (g : Ghosts B.Denot) where
   -- when the loan ends, P holds of the cursor s
   abbrev pub EndsAs : MutBor (Cursor B.Denot g) → (Cursor B.Denot g → Type 0) → Fml
@@ -20,17 +37,12 @@ module _ (B : RattleType) (g : Ghosts B.Denot) where
 
   -- when the loan ends, s is past n bytes if r is Ok, and unchanged if r is an error
   abbrev pub EndsPast : {T E : Type 0} → MutBor (Cursor B.Denot g) → Result T E → ℕ → Fml
-  EndsPast s r n = EndsAs s (λ c. OnOk r (Passes s.now c n) × OnErr r (IsUnchanged s.now c))
+  EndsPast s r n = EndsAs s (IsPast s.now r n)
 
-  -- When the loan ends, s is past a number of w bytes and as many bytes as it says. If fewer bytes
-  -- follow, s is past the number. If the number is incomplete, s is unchanged.
+  -- when the loan ends, s is past a number of w bytes and as many bytes as it says, or as IsPastPrefix says
   abbrev pub EndsPastPrefix : {T E : Type 0} → MutBor (Cursor B.Denot g) → Result T E → ℕ → Fml
-  EndsPastPrefix s r w = EndsAs s (λ c. OnOk r (Passes s.now c (w + number (take w (rest s.now))))
-      × (w ≤ length (rest s.now) → OnErr r (Passes s.now c w))
-      × (length (rest s.now) < w → IsUnchanged s.now c))
+  EndsPastPrefix s r w = EndsAs s (IsPastPrefix s.now r w)
 
   -- the same for a length that is a varint
   abbrev pub EndsPastVarint : {T E : Type 0} → MutBor (Cursor B.Denot g) → Result T E → Fml
-  EndsPastVarint s r = EndsAs s (λ c.
-      ((w n : ℕ) → BeginsVarint (rest s.now) w n → OnOk r (Passes s.now c (w + n)) × OnErr r (Passes s.now c w))
-      × (HasNoVarint (rest s.now) → IsUnchanged s.now c))
+  EndsPastVarint s r = EndsAs s (IsPastVarint s.now r)

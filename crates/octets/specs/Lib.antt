@@ -20,3 +20,6 @@ pub mod Decodes
 pub mod Laws
 pub mod ErrorTexts
 pub mod Marked
+pub mod Calls
+pub mod Steps
+pub mod Does

@@ -30,7 +30,11 @@ pub struct Cursor<B: Bytes> {
 }
 
 /// Construction, position and contents.
+#[tactic(auto, unfolding(crate::specs::Does::Does))]
 impl<B: Bytes> Cursor<B> {
+    ghost use Rattle.std.specs.Prelude.{if◌then◌else◌};
+    ghost use Rattle.octets.specs.Calls.{Call, Answer};
+    ghost use Rattle.octets.specs.Does.{Does};
     ghost use Rattle.octets.specs.Cursor.{bytes, holder, position, rest};
 
     /// Returns a cursor over a buffer of any type, at its start. For a borrowed slice call
@@ -82,6 +86,7 @@ impl<B: Bytes> Cursor<B> {
         // So `off() + cap()` is `len()`, and no buffer has 2 to the power 63 bytes.
         ensures and_offset { position self.now + result ≡ length (bytes self.now) }
         ensures small { length (bytes self.now) < 2 ^ 63 }
+        ensures performs { Does Call.Cap self.now (Answer.Number result) self.now }
     {
         self.buf.len() - self.off
     }
@@ -97,6 +102,7 @@ impl<B: Bytes> Cursor<B> {
     pub fn len(&self) -> usize
         ensures length { result ≡ length (bytes self.now) }
         ensures small { length (bytes self.now) < 2 ^ 63 }
+        ensures performs { Does Call.Len self.now (Answer.Number result) self.now }
     {
         self.buf.len()
     }
@@ -111,7 +117,8 @@ impl<B: Bytes> Cursor<B> {
     /// ```
     #[inline(always)]
     pub fn is_empty(&self) -> bool
-        ensures { IsTrue result ↔ (bytes self.now ≡ []) }
+        ensures empty { IsTrue result ↔ (bytes self.now ≡ []) }
+        ensures performs { Does Call.IsEmpty self.now (Answer.Number (if result then 1 else 0)) self.now }
     {
         self.buf.as_slice().is_empty()
     }
@@ -126,7 +133,8 @@ impl<B: Bytes> Cursor<B> {
     /// ```
     #[inline(always)]
     pub fn off(&self) -> usize
-        ensures { result ≡ position self.now }
+        ensures position { result ≡ position self.now }
+        ensures performs { Does Call.Off self.now (Answer.Number result) self.now }
     {
         self.off
     }
@@ -157,6 +165,8 @@ impl<B: Bytes> Cursor<B> {
     pub fn to_vec(&self, alloc: Global) -> Result<Vec<u8>, AllocError>
         ensures bytes { IfOk result (λ v. v.items ≡ rest self.now) }
         ensures empty { rest self.now ≡ [] → IsOk result }
+        ensures performs { IfOk result
+            (λ v. Does Call.ToVec self.now (Answer.Bytes v.items) self.now) }
 
         // It asks for this number of bytes, and fails exactly if this request is refused.
         ensures granted { OnOk result (Granted (length (rest self.now))) }

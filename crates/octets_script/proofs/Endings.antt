@@ -1,50 +1,24 @@
--- How the clauses of a cursor's calls determine an outcome.
-use Rattle.std.proofs.Common.{◌≡◌, ℕ, ◌+◌, ◌≤◌, ◌<◌, Bool, true, false, List, length, MutBor, refl, sym, ap, ◌∙◌, inr}
-use Rattle.std.proofs.Common.{arith, ◌↔◌, min, Result, Ok, Err, IsOk, IfOk, OnOk, OnErr, subst, length-append}
+-- Outcomes of calls that lend, from their clauses.
+use Rattle.std.proofs.Common.{◌≡◌, ℕ, ◌+◌, ◌≤◌, ◌<◌, Bool, true, false, List, length, MutBor, refl, sym, ap}
+use Rattle.std.proofs.Common.{arith, ◌↔◌, min, Result, Ok, Err, IsOk, IfOk, OnErr, subst, length-append}
 use Rattle.std.proofs.Common.{length-drop, drop, [], ◌∷◌, ◌++◌, take, inl}
 use mathlib.Core.Bool.{true≢false}
-use Rattle.std.specs.Prelude.{nat_le, if◌then◌else◌}
-use Rattle.std.proofs.lemmas.Bool.{le-leb, lt-leb, leb-true, leb-false}
+use Rattle.std.specs.Prelude.{nat_le}
+use Rattle.std.proofs.lemmas.Bool.{leb-true, leb-false}
 use Rattle.octets.specs.Bytes.{splice, over}
-use Rattle.octets.specs.Cursor.{bytes, position, Passes, IsUnchanged, Writes, rest, IsViewOf}
+use Rattle.octets.specs.Cursor.{bytes, position, IsUnchanged, rest, IsViewOf}
+use Rattle.octets.specs.Does.{done_answer}
 use Rattle.octets.specs.Slices.{reference}
-use Rattle.octets.specs.Writing.{bytes_after}
 use Rattle.octets_script.specs.Plays.{ends, Outcome, puts, lends_rest, short, splits, NeedsRoom}
 use Rattle.octets.specs.Loans.{SliceCursor}
-use Rattle.octets_script.specs.Calls.{Answer, GetVarintShortest, Number, Short, Overlong, Done, Bytes, SplitAt, Two}
-use Rattle.std.proofs.lemmas.Bool.Decides.{nat_tests}
-use Rattle.octets.specs.Varints.{BeginsVarint, BeginsOverlong, HasNoVarint, shortest}
-use Rattle.octets_script.specs.Runs.{PerformsAs}
+use Rattle.octets_script.specs.Calls.{Answer, Short, Done, Bytes, SplitAt, Two}
+use Rattle.octets.proofs.lemmas.Performs.{ends_same, where_fits, where_short}
 use Rattle.octets.proofs.lemmas.Splices.{length_splice, splice_whole, splice-front}
 use Rattle.std.proofs.lemmas.List.{length-take, length-take-le}
 
 -- a cursor over the same buffer is over the same slice
 pub same_name : (s t : SliceCursor) → t.buf ≡ s.buf → reference t ≡ reference s
 same_name s t h = ap (λ (b : MutBor (List ℕ)). b.ghost_name) h
-
--- a cursor that passed n bytes
-pub ends_past : (s t : SliceCursor) (n : ℕ) (r : Answer) → Passes s t n
-    → ends r (bytes t) (position t) ≡ ends r (bytes s) (position s + n)
-ends_past s t n r h = cc
-
--- a cursor that is unchanged
-pub ends_same : (s t : SliceCursor) (r : Answer) → IsUnchanged s t
-    → ends r (bytes t) (position t) ≡ ends r (bytes s) (position s)
-ends_same s t r h = cc
-
--- a cursor that wrote w
-pub ends_writing : (s t : SliceCursor) (w : List ℕ) (r : Answer) → Writes s t w
-    → ends r (bytes t) (position t) ≡ ends r (splice (bytes s) (position s) w) (position s + length w)
-ends_writing s t w r h = ap (λ l. ends r l (position t)) (bytes_after s t w h)
-    ∙ ap (ends r (splice (bytes s) (position s) w)) h.past
-
--- a choice by a test of numbers
-pub where_fits : {A : Type 0} (n k : ℕ) (a b : A) → n ≤ k → (if nat_le n k then a else b) ≡ a
-where_fits n k a b h = rw (le-leb n k h)
-
--- and if the first is greater
-pub where_short : {A : Type 0} (n k : ℕ) (a b : A) → k < n → (if nat_le n k then a else b) ≡ b
-where_short n k a b h = rw (lt-leb n k h)
 
 -- what doesn't fit is longer than what remains
 pub refused_long : (n k : ℕ) → (n ≤ k → false ≡ true) → k < n
@@ -53,23 +27,6 @@ refused_long n k h = by_test (nat_le n k) refl
     by_test : (b : Bool) → nat_le n k ≡ b → k < n
     by_test true e = absurd (true≢false (sym (h (leb-true n k e))))
     by_test false e = leb-false n k e
-
--- What a read of a varint in its least width makes of a cursor.
-
--- the varint has the least width
-pub shortest_read : (s t : SliceCursor) (n : ℕ) → BeginsVarint (rest s) (shortest n) n → Passes s t (shortest n)
-    → PerformsAs GetVarintShortest s (Number n) t
-shortest_read s t n begins passed = grind (arith, nat_tests, ends_past, same_name)
-
--- a smaller width holds its number
-pub shortest_overlong : (s t : SliceCursor) → BeginsOverlong (rest s) → IsUnchanged s t
-    → PerformsAs GetVarintShortest s Overlong t
-shortest_overlong s t over still = grind (arith, nat_tests, ends_same, same_name)
-
--- there is no complete varint
-pub shortest_none : (s t : SliceCursor) → HasNoVarint (rest s) → IsUnchanged s t
-    → PerformsAs GetVarintShortest s Short t
-shortest_none s t none still = (inr (none, ends_same s t Short still), same_name s t still.1)
 
 -- Outcomes of commands that lend.
 
@@ -95,11 +52,10 @@ module _ (s t : SliceCursor) (b w : List ℕ) (n : ℕ) (long : length b ≡ n) 
   -- both, by the call's result r
   pub put_ends : {T E : Type 0} (r : Result T E) (y : Answer) → (IsOk r ↔ (n ≤ length (rest s)))
       → IfOk r (λ _. bytes t ≡ written) → IfOk r (λ _. position t ≡ position s + n) → OnErr r (IsUnchanged s t)
-      → reference t ≡ reference s → OnOk r (y ≡ Done) → OnErr r (y ≡ Short) → PutEnds y
-  put_ends (Ok u) y fits wrote moved same name done refused =
-      subst PutEnds (sym done) (put_done (fits.0 refl) wrote moved name)
-  put_ends (Err e) y fits wrote moved same name done refused =
-      subst PutEnds (sym refused) (put_short (refused_long n (length (rest s)) fits.1) same)
+      → reference t ≡ reference s → y ≡ done_answer r → PutEnds y
+  put_ends (Ok u) y fits wrote moved same name is = subst PutEnds (sym is) (put_done (fits.0 refl) wrote moved name)
+  put_ends (Err e) y fits wrote moved same name is =
+      subst PutEnds (sym is) (put_short (refused_long n (length (rest s)) fits.1) same)
 
 -- all remaining bytes were lent, and written over
 pub rest_lent : (s : SliceCursor) (before part w : List ℕ) → before ≡ rest s → part ≡ over (rest s) w

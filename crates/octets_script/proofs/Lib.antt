@@ -1,6 +1,6 @@
 mod Endings
 pub mod Decisions
-mod Prefixed
+mod Performed
 mod TextEndings
 pub mod Overs
 mod OneOutcome

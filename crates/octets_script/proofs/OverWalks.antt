@@ -8,7 +8,7 @@ use loans.WalkSteps.{◌≡◌, ℕ, ◌≤◌, List, [], ◌∷◌, length, ref
 use loans.WalkSteps.{fact, tables, ‵, raw, ◌⊛◌, ◌$◌, ◌∵◌, !, qed, done as ends_here, move, keep, drop, split, join}
 use loans.WalkSteps.{fsplit, fjoin, suffices, frame, enter, addr, stop, no_more, and_then, returns, alloc_all, pass_all}
 use loans.WalkSteps.{free_all, look_at, get, through, sets, lands_as, u8, yes, owns, MutRef, MutSlice, mut_vals}
-use loans.WalkSteps.{mut_Tells, uint_vals, uint_Tells, plain, nothing, heard, rewrite, sym, ap, ◌∙◌, shows, Stays}
+use loans.WalkSteps.{mut_Tells, uint_vals, uint_Tells, plain, nothing, heard, rewrite, sym, ap, ◌∙◌, Stays}
 use loans.WalkSteps.{walk_of, stay_ref, stay_dropped, Goes-ref, Goes-dropped, ends_at, framed, ty_int}
 use Rattle.std.specs.Prelude.{◌↔◌, IsOk, IfOk, OnErr, drop as drop_list}
 use seplogic.Ra.Ura.{Ura}

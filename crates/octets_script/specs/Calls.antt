@@ -1,51 +1,14 @@
 -- Commands and replies as contracts see them, with their bytes as lists.
-use Rattle.std.specs.Prelude.{ℕ, List}
 use Rattle.octets_script.specs.declared.command.Command.{Command}
 use Rattle.octets_script.specs.declared.command.Command.TheVariants as C
 use Rattle.octets_script.specs.declared.reply.Reply.{Reply}
 use Rattle.octets_script.specs.declared.reply.Reply.TheVariants as R
-use Rattle.octets_script.specs.Wides.{WideNumber}
-
--- the call of a command, with its arguments
-pub data Call : Type 0 where
-  GetU8 : Call
-  GetU16 : Call
-  GetU24 : Call
-  GetU32 : Call
-  GetU64 : Call
-  PeekU8 : Call
-  GetVarint : Call
-  GetVarintShortest : Call
-  GetBytes : ℕ → Call
-  PeekBytes : ℕ → Call
-  GetBytesU8 : Call
-  GetBytesU16 : Call
-  GetBytesVarint : Call
-  GetBytesMut : ℕ → List ℕ → Call
-  PeekBytesMut : ℕ → List ℕ → Call
-  PutU8 : ℕ → List ℕ → Call
-  PutU16 : ℕ → List ℕ → Call
-  PutU24 : ℕ → List ℕ → Call
-  PutU32 : ℕ → List ℕ → Call
-  PutU64 : ℕ → List ℕ → Call
-  PutVarint : ℕ → List ℕ → Call
-  PutVarintWithLen : WideNumber → List ℕ → Call
-  PutBytes : List ℕ → Call
-  PutHuffman : List ℕ → Call
-  PutHuffmanLower : List ℕ → Call
-  Decode : ℕ → Call
-  Rewind : ℕ → Call
-  Skip : ℕ → Call
-  Slice : ℕ → List ℕ → Call
-  SliceLast : ℕ → List ℕ → Call
-  SplitAt : ℕ → List ℕ → List ℕ → Call
-  AsMut : List ℕ → Call
-  Cap : Call
-  Len : Call
-  Off : Call
-  IsEmpty : Call
-  Buf : Call
-  ToVec : Call
+pub use Rattle.octets.specs.Calls.{Call, Answer, GetU8, GetU16, GetU24, GetU32, GetU64, PeekU8, GetVarint}
+pub use Rattle.octets.specs.Calls.{GetVarintShortest, GetBytes, PeekBytes, GetBytesU8, GetBytesU16, GetBytesVarint}
+pub use Rattle.octets.specs.Calls.{GetBytesMut, PeekBytesMut, PutU8, PutU16, PutU24, PutU32, PutU64, PutVarint}
+pub use Rattle.octets.specs.Calls.{PutVarintWithLen, PutBytes, PutHuffman, PutHuffmanLower, Decode, Rewind, Skip}
+pub use Rattle.octets.specs.Calls.{Slice, SliceLast, SplitAt, AsMut, Cap, Len, Off, IsEmpty, Buf, ToVec, Done, Number}
+pub use Rattle.octets.specs.Calls.{Bytes, Two, Short, Overlong}
 
 -- the call of a command, with its bytes as lists
 abbrev pub call_of : Command → Call
@@ -87,15 +50,6 @@ call_of C.Off = Off
 call_of C.IsEmpty = IsEmpty
 call_of C.Buf = Buf
 call_of C.ToVec = ToVec
-
--- what a reply says
-pub data Answer : Type 0 where
-  Done : Answer
-  Number : ℕ → Answer
-  Bytes : List ℕ → Answer
-  Two : List ℕ → List ℕ → Answer
-  Short : Answer
-  Overlong : Answer
 
 -- what a reply says, with its bytes as lists
 abbrev pub answer_of : Reply → Answer

@@ -6,20 +6,19 @@ ghost use Rattle.octets.specs.Requests.{WasRefused};
 
 mod halves;
 mod loans;
-mod moves;
-mod numbers;
 mod puts;
 mod queries;
 mod reads;
 mod texts;
 
 use crate::command::Command;
-use crate::reply::Reply;
+use crate::reply::{Reply, done_or_short, number_or_short, varint_or_fault};
 use octets::OctetsMut;
 use std::alloc::{AllocError, Global};
 
 /// Performs `command` on the cursor. If the memory for the reply can't be allocated, the cursor is
 /// unchanged.
+#[tactic(auto, using(crate::proofs::Performed::performed))]
 pub(crate) fn perform(
     alloc: Global,
     cursor: &mut OctetsMut<'_>,
@@ -31,14 +30,14 @@ pub(crate) fn perform(
     ensures memory { OnErr result WasRefused }
 {
     match command {
-        Command::GetU8 => Ok(numbers::get_u8(cursor)),
-        Command::GetU16 => Ok(numbers::get_u16(cursor)),
-        Command::GetU24 => Ok(numbers::get_u24(cursor)),
-        Command::GetU32 => Ok(numbers::get_u32(cursor)),
-        Command::GetU64 => Ok(numbers::get_u64(cursor)),
-        Command::PeekU8 => Ok(numbers::peek_u8(cursor)),
-        Command::GetVarint => Ok(numbers::get_varint(cursor)),
-        Command::GetVarintShortest => Ok(numbers::get_varint_shortest(cursor)),
+        Command::GetU8 => Ok(number_or_short(cursor.get_u8().map(u64::from))),
+        Command::GetU16 => Ok(number_or_short(cursor.get_u16().map(u64::from))),
+        Command::GetU24 => Ok(number_or_short(cursor.get_u24().map(u64::from))),
+        Command::GetU32 => Ok(number_or_short(cursor.get_u32().map(u64::from))),
+        Command::GetU64 => Ok(number_or_short(cursor.get_u64())),
+        Command::PeekU8 => Ok(number_or_short(cursor.peek_u8().map(u64::from))),
+        Command::GetVarint => Ok(number_or_short(cursor.get_varint())),
+        Command::GetVarintShortest => Ok(varint_or_fault(cursor.get_varint_shortest())),
         Command::GetBytes(len) => reads::get_bytes(alloc, cursor, *len),
         Command::PeekBytes(len) => reads::peek_bytes(alloc, cursor, *len),
         Command::GetBytesU8 => reads::get_bytes_with_u8_length(alloc, cursor),
@@ -53,12 +52,16 @@ pub(crate) fn perform(
         Command::PutU64(v, w) => Ok(puts::put_u64(cursor, *v, w.as_slice())),
         Command::PutVarint(v, w) => Ok(puts::put_varint(cursor, v, w.as_slice())),
         Command::PutVarintWithLen(v, w) => Ok(puts::put_varint_with_len(cursor, v, w.as_slice())),
-        Command::PutBytes(bytes) => Ok(puts::put_bytes(cursor, bytes.as_slice())),
-        Command::PutHuffman(value) => Ok(texts::put_huffman(cursor, value.as_slice())),
-        Command::PutHuffmanLower(value) => Ok(texts::put_huffman_lower(cursor, value.as_slice())),
+        Command::PutBytes(bytes) => Ok(done_or_short(cursor.put_bytes(bytes.as_slice()))),
+        Command::PutHuffman(value) => {
+            Ok(done_or_short(cursor.put_huffman_encoded::<false>(value.as_slice())))
+        }
+        Command::PutHuffmanLower(value) => {
+            Ok(done_or_short(cursor.put_huffman_encoded::<true>(value.as_slice())))
+        }
         Command::Decode(max_len) => texts::decode(alloc, cursor, *max_len),
-        Command::Rewind(len) => Ok(moves::rewind(cursor, *len)),
-        Command::Skip(len) => Ok(moves::skip(cursor, *len)),
+        Command::Rewind(len) => Ok(done_or_short(cursor.rewind(*len))),
+        Command::Skip(len) => Ok(done_or_short(cursor.skip(*len))),
         Command::Slice(len, w) => loans::slice(alloc, cursor, *len, w.as_slice()),
         Command::SliceLast(len, w) => loans::slice_last(alloc, cursor, *len, w.as_slice()),
         Command::SplitAt(off, left, right) => halves::split_at(
@@ -69,10 +72,10 @@ pub(crate) fn perform(
             right.as_slice(),
         ),
         Command::AsMut(w) => loans::as_mut(alloc, cursor, w.as_slice()),
-        Command::Cap => Ok(queries::cap(cursor)),
-        Command::Len => Ok(queries::len(cursor)),
-        Command::Off => Ok(queries::off(cursor)),
-        Command::IsEmpty => Ok(queries::is_empty(cursor)),
+        Command::Cap => Ok(Reply::Number(cursor.cap() as u64)),
+        Command::Len => Ok(Reply::Number(cursor.len() as u64)),
+        Command::Off => Ok(Reply::Number(cursor.off() as u64)),
+        Command::IsEmpty => Ok(Reply::Number(u64::from(cursor.is_empty()))),
         Command::Buf => queries::buf(alloc, cursor),
         Command::ToVec => queries::to_vec(alloc, cursor),
     }

@@ -1,7 +1,9 @@
 //! The replies, and what a run returns that stops before its end.
 ghost use Rattle.std.specs.Prelude.{◌≡◌, Some, codes, IfOk, OnOk, OnErr};
+ghost use Rattle.octets.specs.Does.{done_answer, number_answer, varint_answer};
 ghost use Rattle.octets_script.specs.Calls.{Answer, answer_of};
 
+use octets::VarintError;
 use std::error::Error;
 use std::fmt;
 
@@ -46,8 +48,7 @@ impl Error for Stopped {}
 
 /// Returns `Done` if the call succeeded, and `Short` if it failed.
 pub(crate) fn done_or_short(answer: octets::Result<()>) -> Reply
-    ensures done { OnOk answer (answer_of result ≡ Answer.Done) }
-    ensures short { OnErr answer (answer_of result ≡ Answer.Short) }
+    ensures { answer_of result ≡ done_answer answer }
 {
     match answer {
         Ok(()) => Reply::Done,
@@ -57,12 +58,22 @@ pub(crate) fn done_or_short(answer: octets::Result<()>) -> Reply
 
 /// Returns the `Number` that was read, or `Short` if the call failed.
 pub(crate) fn number_or_short(answer: octets::Result<u64>) -> Reply
-    ensures number { IfOk answer (λ n. answer_of result ≡ Answer.Number n) }
-    ensures short { OnErr answer (answer_of result ≡ Answer.Short) }
+    ensures { answer_of result ≡ number_answer answer }
 {
     match answer {
         Ok(number) => Reply::Number(number),
         Err(_) => Reply::Short,
+    }
+}
+
+/// Returns the `Number` that was read as a varint in its least width, or why there is none.
+pub(crate) fn varint_or_fault(answer: Result<u64, VarintError>) -> Reply
+    ensures { answer_of result ≡ varint_answer answer }
+{
+    match answer {
+        Ok(number) => Reply::Number(number),
+        Err(VarintError::Short) => Reply::Short,
+        Err(VarintError::Overlong) => Reply::Overlong,
     }
 }
 

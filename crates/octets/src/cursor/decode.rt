@@ -26,6 +26,8 @@ use octets_code::Steps;
 use std::alloc::Global;
 
 impl<'a> Octets<'a> {
+    ghost use Rattle.octets.specs.Calls.{Call};
+    ghost use Rattle.octets.specs.Does.{Does, value_answer};
     ghost use Rattle.octets.specs.Cursor.{bytes, rest, Passes};
     ghost use Rattle.octets.specs.Decodes.{Refuses};
 
@@ -75,6 +77,7 @@ impl<'a> Octets<'a> {
     /// assert_eq!(cursor.off(), 2);
     /// ```
     #[inline(always)]
+    #[tactic(auto, unfolding(crate::specs::Does::Does))]
     pub fn get_huffman_decoded_with_max_length(
         &mut self,
         alloc: Global,
@@ -91,6 +94,8 @@ impl<'a> Octets<'a> {
         ensures one { WhereText (rest self.old) (λ v. IfOk result (λ w. w.items ≡ v)) }
         ensures limit { WhereText (rest self.old) (λ v. IfOk result (λ _. length v ≤ max_len)) }
         ensures given { WhereText (rest self.old) (λ v. length v ≤ max_len → Gives result v) }
+        ensures performs { UnlessMemory result
+            (Does (Call.Decode max_len) self.old (value_answer result) self.new) }
     {
         self.get_huffman_decoded_counted(alloc, max_len, &mut Steps::new())
     }

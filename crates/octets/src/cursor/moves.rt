@@ -5,7 +5,10 @@ use crate::cursor::Cursor;
 use crate::cursor::buffer::Bytes;
 use crate::error::{BufferTooShortError, Result};
 
+#[tactic(auto, unfolding(crate::specs::Does::Does))]
 impl<B: Bytes> Cursor<B> {
+    ghost use Rattle.octets.specs.Calls.{Call};
+    ghost use Rattle.octets.specs.Does.{Does, done_answer};
     ghost use Rattle.octets.specs.Cursor.{position, rest, passed, Passes, IsUnchanged};
 
     /// Moves the offset forward by `len` bytes, which must remain.
@@ -57,6 +60,7 @@ impl<B: Bytes> Cursor<B> {
             (passed self.new ≡ take (position self.new) (passed self.old)) }
         ensures stands_again { OnOk result
             (rest self.new ≡ drop (position self.new) (passed self.old) ++ rest self.old) }
+        ensures performs { Does (Call.Rewind len) self.old (done_answer result) self.new }
     {
         if self.off < len {
             return Err(BufferTooShortError);
@@ -76,7 +80,7 @@ impl<B: Bytes> Cursor<B> {
     /// assert_eq!(cursor.skip(2), Err(BufferTooShortError));
     /// ```
     #[inline(always)]
-    #[tactic(auto, using(crate::proofs::CallerLemmas::passes_passed))]
+    #[tactic(auto, using(crate::proofs::CallerLemmas::passes_passed), unfolding(crate::specs::Does::Does))]
     pub fn skip(&mut self, skip: usize) -> Result<()>
         ensures fits { IsOk result ↔ (skip ≤ length (rest self.old)) }
         ensures passes { OnOk result (Passes self.old self.new skip) }
@@ -85,6 +89,7 @@ impl<B: Bytes> Cursor<B> {
         // This clause follows from `passes`. It says which bytes are now before the offset.
         ensures before { OnOk result
             (passed self.new ≡ passed self.old ++ take skip (rest self.old)) }
+        ensures performs { Does (Call.Skip skip) self.old (done_answer result) self.new }
     {
         if skip > self.cap() {
             return Err(BufferTooShortError);

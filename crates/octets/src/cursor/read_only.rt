@@ -12,7 +12,10 @@ use std::fmt;
 /// the cursor, so they can outlive the cursor.
 pub type Octets<'a> = Cursor<&'a [u8]>;
 
+#[tactic(auto, unfolding(crate::specs::Does::Does))]
 impl<'a> Octets<'a> {
+    ghost use Rattle.octets.specs.Calls.{Call, Answer};
+    ghost use Rattle.octets.specs.Does.{Does};
     ghost use Rattle.octets.specs.Cursor.{bytes, position, rest};
 
     /// Makes a cursor over `buf`, with the offset 0.
@@ -43,6 +46,7 @@ impl<'a> Octets<'a> {
 
         // Each of them is below 256.
         ensures bytes { AreBytes (bytes self.now) }
+        ensures performs { Does Call.Buf self.now (Answer.Bytes result.now) self.now }
     {
         known_bytes(self.buf)
     }

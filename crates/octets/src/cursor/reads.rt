@@ -14,7 +14,10 @@ use crate::varint::{read_varint, read_varint_shortest, varint_len};
 
 /// Reads of numbers in network order. Each fails if and only if fewer bytes remain than its number
 /// has.
+#[tactic(auto, unfolding(crate::specs::Does::Does))]
 impl<B: Bytes> Cursor<B> {
+    ghost use Rattle.octets.specs.Calls.{Call};
+    ghost use Rattle.octets.specs.Does.{Does, number_answer, varint_answer};
     ghost use Rattle.octets.specs.Cursor.{remaining, rest, Passes, IsUnchanged, Reads, ReadsVarint};
 
     /// Reads a number of one byte, and advances the offset past it.
@@ -27,13 +30,14 @@ impl<B: Bytes> Cursor<B> {
     /// assert_eq!(cursor.off(), 1);
     /// ```
     #[inline(always)]
-    #[tactic(auto, unfolding(crate::specs::Cursor::Reads))]
+    #[tactic(auto, unfolding(crate::specs::Cursor::Reads, crate::specs::Does::Does))]
     pub fn get_u8(&mut self) -> Result<u8>
         ensures fits { IsOk result ↔ (1 ≤ length (rest self.old)) }
         ensures value { IfOk result (λ n. n ≡ number (take 1 (rest self.old))) }
         ensures spelled { IfOk result (λ n. Reads self.old self.new (network 1 n)) }
         ensures passes { OnOk result (Passes self.old self.new 1) }
         ensures refused { OnErr result (IsUnchanged self.old self.new) }
+        ensures performs { Does Call.GetU8 self.old (number_answer result) self.new }
     {
         let value = read_u8(self.buf.as_slice(), self.off)?;
         self.advance(1);
@@ -51,13 +55,14 @@ impl<B: Bytes> Cursor<B> {
     /// assert_eq!(cursor.off(), 2);
     /// ```
     #[inline(always)]
-    #[tactic(auto, unfolding(crate::specs::Cursor::Reads))]
+    #[tactic(auto, unfolding(crate::specs::Cursor::Reads, crate::specs::Does::Does))]
     pub fn get_u16(&mut self) -> Result<u16>
         ensures fits { IsOk result ↔ (2 ≤ length (rest self.old)) }
         ensures value { IfOk result (λ n. n ≡ number (take 2 (rest self.old))) }
         ensures spelled { IfOk result (λ n. Reads self.old self.new (network 2 n)) }
         ensures passes { OnOk result (Passes self.old self.new 2) }
         ensures refused { OnErr result (IsUnchanged self.old self.new) }
+        ensures performs { Does Call.GetU16 self.old (number_answer result) self.new }
     {
         let value = read_u16(self.buf.as_slice(), self.off)?;
         self.advance(2);
@@ -73,7 +78,7 @@ impl<B: Bytes> Cursor<B> {
     /// assert_eq!(cursor.get_u24()?, 0x010203);
     /// ```
     #[inline(always)]
-    #[tactic(auto, unfolding(crate::specs::Cursor::Reads))]
+    #[tactic(auto, unfolding(crate::specs::Cursor::Reads, crate::specs::Does::Does))]
     pub fn get_u24(&mut self) -> Result<u32>
         ensures fits { IsOk result ↔ (3 ≤ length (rest self.old)) }
         ensures value { IfOk result (λ n. n ≡ number (take 3 (rest self.old))) }
@@ -84,6 +89,7 @@ impl<B: Bytes> Cursor<B> {
         // This clause follows from those above. It serves a caller that states what it read by
         // `spelled`.
         ensures small { IfOk result (λ n. n < 2 ^ 24) }
+        ensures performs { Does Call.GetU24 self.old (number_answer result) self.new }
     {
         let value = read_u24(self.buf.as_slice(), self.off)?;
         self.advance(3);
@@ -99,13 +105,14 @@ impl<B: Bytes> Cursor<B> {
     /// assert_eq!(cursor.get_u32()?, 0x01020304);
     /// ```
     #[inline(always)]
-    #[tactic(auto, unfolding(crate::specs::Cursor::Reads))]
+    #[tactic(auto, unfolding(crate::specs::Cursor::Reads, crate::specs::Does::Does))]
     pub fn get_u32(&mut self) -> Result<u32>
         ensures fits { IsOk result ↔ (4 ≤ length (rest self.old)) }
         ensures value { IfOk result (λ n. n ≡ number (take 4 (rest self.old))) }
         ensures spelled { IfOk result (λ n. Reads self.old self.new (network 4 n)) }
         ensures passes { OnOk result (Passes self.old self.new 4) }
         ensures refused { OnErr result (IsUnchanged self.old self.new) }
+        ensures performs { Does Call.GetU32 self.old (number_answer result) self.new }
     {
         let value = read_u32(self.buf.as_slice(), self.off)?;
         self.advance(4);
@@ -121,13 +128,14 @@ impl<B: Bytes> Cursor<B> {
     /// assert_eq!(cursor.get_u64()?, 0x01020304);
     /// ```
     #[inline(always)]
-    #[tactic(auto, unfolding(crate::specs::Cursor::Reads))]
+    #[tactic(auto, unfolding(crate::specs::Cursor::Reads, crate::specs::Does::Does))]
     pub fn get_u64(&mut self) -> Result<u64>
         ensures fits { IsOk result ↔ (8 ≤ length (rest self.old)) }
         ensures value { IfOk result (λ n. n ≡ number (take 8 (rest self.old))) }
         ensures spelled { IfOk result (λ n. Reads self.old self.new (network 8 n)) }
         ensures passes { OnOk result (Passes self.old self.new 8) }
         ensures refused { OnErr result (IsUnchanged self.old self.new) }
+        ensures performs { Does Call.GetU64 self.old (number_answer result) self.new }
     {
         let value = read_u64(self.buf.as_slice(), self.off)?;
         self.advance(8);
@@ -148,6 +156,7 @@ impl<B: Bytes> Cursor<B> {
         ensures fits { IsOk result ↔ (1 ≤ length (rest self.old)) }
         ensures value { IfOk result (λ n. n ≡ number (take 1 (rest self.old))) }
         ensures stays { IsUnchanged self.old self.new }
+        ensures performs { Does Call.PeekU8 self.old (number_answer result) self.new }
     {
         read_u8(self.buf.as_slice(), self.off)
     }
@@ -163,7 +172,7 @@ impl<B: Bytes> Cursor<B> {
     /// assert_eq!(cursor.off(), 2);
     /// ```
     #[inline(always)]
-    #[tactic(auto, using(crate::proofs::Cursors::varints))]
+    #[tactic(auto, using(crate::proofs::Cursors::varints), unfolding(crate::specs::Does::Does))]
     pub fn get_varint(&mut self) -> Result<u64>
         ensures fits { IsOk result ↔ HoldsVarint (rest self.old) }
         ensures value { IfOk result
@@ -180,6 +189,7 @@ impl<B: Bytes> Cursor<B> {
         ensures shorter { OnOk result (remaining self.new < remaining self.old) }
         ensures eight_at_most { OnOk result (remaining self.old ≤ remaining self.new + 8) }
         ensures small { IfOk result (λ n. n < 2 ^ 62) }
+        ensures performs { Does Call.GetVarint self.old (number_answer result) self.new }
     {
         let (width, value) = read_varint(self.buf.as_slice(), self.off)?;
         self.advance_by_width(width);
@@ -200,7 +210,7 @@ impl<B: Bytes> Cursor<B> {
     /// assert_eq!(cursor.off(), 1);
     /// ```
     #[inline(always)]
-    #[tactic(auto, using(crate::proofs::Cursors::varints))]
+    #[tactic(auto, using(crate::proofs::Cursors::varints), unfolding(crate::specs::Does::Does))]
     pub fn get_varint_shortest(&mut self) -> std::result::Result<u64, VarintError>
         ensures value { IfOk result (λ n. BeginsVarint (rest self.old) (shortest n) n
             × Passes self.old self.new (shortest n)) }
@@ -214,6 +224,7 @@ impl<B: Bytes> Cursor<B> {
         // or that adds widths.
         ensures shorter { OnOk result (remaining self.new < remaining self.old) }
         ensures small { IfOk result (λ n. n < 2 ^ 62) }
+        ensures performs { Does Call.GetVarintShortest self.old (varint_answer result) self.new }
     {
         let value = read_varint_shortest(self.buf.as_slice(), self.off)?;
         self.advance(varint_len(value));

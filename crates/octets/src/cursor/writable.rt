@@ -60,7 +60,10 @@ impl<'a> OctetsMut<'a> {
     }
 }
 
+#[tactic(auto, unfolding(crate::specs::Does::Does))]
 impl<B: Buffer> Cursor<B> {
+    ghost use Rattle.octets.specs.Calls.{Call, Answer};
+    ghost use Rattle.octets.specs.Does.{Does};
     ghost use Rattle.octets.specs.Cursor.{bytes};
 
     /// Returns the whole buffer, including the bytes before the offset.
@@ -74,6 +77,7 @@ impl<B: Buffer> Cursor<B> {
     pub fn buf(&self) -> &[u8]
         ensures is { result.now ≡ bytes self.now }
         ensures bytes { AreBytes (bytes self.now) }
+        ensures performs { Does Call.Buf self.now (Answer.Bytes result.now) self.now }
     {
         known_bytes(self.buf.as_slice())
     }

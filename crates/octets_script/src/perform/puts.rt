@@ -57,9 +57,3 @@ pub(crate) fn put_varint_with_len(cursor: &mut OctetsMut<'_>, v: &Wide, w: &[u8]
 {
     done_or_short(put_wide_then_overwrite(cursor, v.value(), v.width(), w))
 }
-
-pub(crate) fn put_bytes(cursor: &mut OctetsMut<'_>, bytes: &[u8]) -> Reply
-    ensures { AnswersLeaving (Call.PutBytes bytes.now) cursor.old result cursor.new }
-{
-    done_or_short(cursor.put_bytes(bytes))
-}

@@ -1,4 +1,4 @@
-//! Commands that ask for the state of the cursor.
+//! Commands that reply with all bytes of the buffer, or with those that remain.
 ghost use Rattle.std.specs.Prelude.{IfOk, OnErr};
 ghost use Rattle.octets.specs.Cursor.{bytes, position};
 ghost use Rattle.octets_script.specs.Runs.{AnswersUnmoved};
@@ -10,30 +10,6 @@ use crate::copied::copied;
 use crate::reply::Reply;
 use octets::OctetsMut;
 use std::alloc::{AllocError, Global};
-
-pub(crate) fn cap(cursor: &OctetsMut<'_>) -> Reply
-    ensures { AnswersUnmoved Call.Cap cursor.now result }
-{
-    Reply::Number(cursor.cap() as u64)
-}
-
-pub(crate) fn len(cursor: &OctetsMut<'_>) -> Reply
-    ensures { AnswersUnmoved Call.Len cursor.now result }
-{
-    Reply::Number(cursor.len() as u64)
-}
-
-pub(crate) fn off(cursor: &OctetsMut<'_>) -> Reply
-    ensures { AnswersUnmoved Call.Off cursor.now result }
-{
-    Reply::Number(cursor.off() as u64)
-}
-
-pub(crate) fn is_empty(cursor: &OctetsMut<'_>) -> Reply
-    ensures { AnswersUnmoved Call.IsEmpty cursor.now result }
-{
-    Reply::Number(u64::from(cursor.is_empty()))
-}
 
 pub(crate) fn buf(alloc: Global, cursor: &OctetsMut<'_>) -> Result<Reply, AllocError>
     ensures tells { IfOk result (AnswersUnmoved Call.Buf cursor.now) }

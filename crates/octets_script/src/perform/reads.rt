@@ -1,9 +1,11 @@
 //! Commands that read bytes.
 ghost use Rattle.std.specs.Prelude.{◌≡◌, ◌<◌, ◌≤◌, length, IfOk, OnOk, OnErr};
 ghost use Rattle.octets.specs.Cursor.{bytes, position};
+ghost use Rattle.octets.specs.Does.{view_answer};
 ghost use Rattle.octets.specs.Slices.{reference};
 ghost use Rattle.octets_script.specs.Runs.{AnswersLeaving, RefusedForMemory};
-ghost use Rattle.octets_script.specs.Calls.{Call, Answer, answer_of};
+ghost use Rattle.octets_script.specs.Calls.{Call, answer_of};
+ghost use Rattle.octets_script.specs.Plays.{HoldsByte};
 ghost use Rattle.octets.specs.Requests.{WasRefused};
 
 use crate::copied::copied;
@@ -39,7 +41,6 @@ pub(crate) fn get_bytes(
     or_go_back(cursor, from, reply)
 }
 
-#[tactic(auto, using(crate::proofs::Prefixed::prefixed_ends))]
 pub(crate) fn get_bytes_with_u8_length(
     alloc: Global,
     cursor: &mut OctetsMut<'_>,
@@ -53,7 +54,6 @@ pub(crate) fn get_bytes_with_u8_length(
     or_go_back(cursor, from, reply)
 }
 
-#[tactic(auto, using(crate::proofs::Prefixed::prefixed_ends))]
 pub(crate) fn get_bytes_with_u16_length(
     alloc: Global,
     cursor: &mut OctetsMut<'_>,
@@ -83,10 +83,8 @@ pub(crate) fn get_bytes_with_varint_length(
 
 /// Copies what a call lent for reading. The reply is `Short` if the call failed.
 fn copied_reply(alloc: Global, lent: octets::Result<Octets<'_>>) -> Result<Reply, AllocError>
-    ensures copied { IfOk lent.entry (λ v. IfOk result
-        (λ r. answer_of r ≡ Answer.Bytes (bytes v))) }
-    ensures refused { IfOk lent.entry (λ v. OnErr result (0 < length (bytes v))) }
-    ensures short { OnErr lent.entry (result ≡ Ok Reply.Short) }
+    ensures copied { IfOk result (λ r. answer_of r ≡ view_answer lent.entry) }
+    ensures refused { OnErr result (HoldsByte (view_answer lent.entry)) }
     ensures memory { OnErr result WasRefused }
 {
     match lent {

@@ -1,26 +1,12 @@
-//! Commands that encode and decode Huffman-encoded strings.
+//! The command that decodes a Huffman-encoded string.
 ghost use Rattle.std.specs.Prelude.{IfOk, OnErr};
 ghost use Rattle.octets_script.specs.Runs.{AnswersLeaving, RefusedForMemory};
 ghost use Rattle.octets_script.specs.Calls.{Call};
 ghost use Rattle.octets.specs.Requests.{WasRefused};
 
-use crate::reply::{Reply, done_or_short};
+use crate::reply::Reply;
 use octets::{DecodeError, Octets, OctetsMut};
 use std::alloc::{AllocError, Global};
-
-#[tactic(auto, using(crate::proofs::TextEndings::puts), unfolding(octets::specs::Encodes::cased))]
-pub(crate) fn put_huffman(cursor: &mut OctetsMut<'_>, value: &[u8]) -> Reply
-    ensures { AnswersLeaving (Call.PutHuffman value.now) cursor.old result cursor.new }
-{
-    done_or_short(cursor.put_huffman_encoded::<false>(value))
-}
-
-#[tactic(auto, using(crate::proofs::TextEndings::puts), unfolding(octets::specs::Encodes::cased))]
-pub(crate) fn put_huffman_lower(cursor: &mut OctetsMut<'_>, value: &[u8]) -> Reply
-    ensures { AnswersLeaving (Call.PutHuffmanLower value.now) cursor.old result cursor.new }
-{
-    done_or_short(cursor.put_huffman_encoded::<true>(value))
-}
 
 pub(crate) fn decode(
     alloc: Global,

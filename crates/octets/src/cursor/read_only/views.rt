@@ -7,7 +7,11 @@ ghost use Rattle.octets.specs.Varints.{BeginsVarint, HoldsPrefixed, varint};
 use crate::cursor::read_only::Octets;
 use crate::error::{BufferTooShortError, Result};
 
+#[tactic(auto, unfolding(crate::specs::Does::Does))]
 impl<'a> Octets<'a> {
+    ghost use Rattle.std.specs.Prelude.{[]};
+    ghost use Rattle.octets.specs.Calls.{Call};
+    ghost use Rattle.octets.specs.Does.{Does, slice_answer, view_answer};
     ghost use Rattle.octets.specs.Cursor.{bytes, remaining, rest, Passes, IsUnchanged};
     ghost use Rattle.octets.specs.Cursor.{IsViewOf, Reads};
     ghost use Rattle.octets.specs.Octets.{ReadsPrefixed, RefusesPrefixed};
@@ -24,13 +28,14 @@ impl<'a> Octets<'a> {
     /// assert_eq!(cursor.get_bytes(2), Err(BufferTooShortError));
     /// ```
     #[inline(always)]
-    #[tactic(auto, unfolding(crate::specs::Cursor::Reads))]
+    #[tactic(auto, unfolding(crate::specs::Cursor::Reads, crate::specs::Does::Does))]
     pub fn get_bytes(&mut self, len: usize) -> Result<Octets<'a>>
         ensures fits { IsOk result ↔ (len ≤ length (rest self.old)) }
         ensures view { IfOk result (IsViewOf (take len (rest self.old))) }
         ensures spelled { IfOk result (λ v. Reads self.old self.new (bytes v)) }
         ensures passes { OnOk result (Passes self.old self.new len) }
         ensures refused { OnErr result (IsUnchanged self.old self.new) }
+        ensures performs { Does (Call.GetBytes len) self.old (view_answer result) self.new }
     {
         let view = self.peek_bytes(len)?;
         self.advance(len);
@@ -51,6 +56,7 @@ impl<'a> Octets<'a> {
     pub fn peek_bytes(&self, len: usize) -> Result<Octets<'a>>
         ensures fits { IsOk result ↔ (len ≤ length (rest self.now)) }
         ensures view { IfOk result (IsViewOf (take len (rest self.now))) }
+        ensures performs { Does (Call.PeekBytes len) self.now (view_answer result) self.now }
     {
         Ok(Octets::with_slice(self.slice(len)?))
     }
@@ -65,9 +71,11 @@ impl<'a> Octets<'a> {
     /// assert_eq!(cursor.off(), 0);
     /// ```
     #[inline(always)]
+    #[tactic(auto, using(crate::proofs::lemmas::Performs::nothing_over), unfolding(crate::specs::Does::Does))]
     pub fn slice(&self, len: usize) -> Result<&'a [u8]>
         ensures fits { IsOk result ↔ (len ≤ length (rest self.now)) }
         ensures shows { IfOk result (λ s. s.now ≡ take len (rest self.now)) }
+        ensures performs { Does (Call.Slice len []) self.now (slice_answer result) self.now }
     {
         if len > self.cap() {
             return Err(BufferTooShortError);
@@ -89,6 +97,7 @@ impl<'a> Octets<'a> {
         ensures fits { IsOk result ↔ (len ≤ length (rest self.now)) }
         ensures shows { IfOk result
             (λ s. s.now ≡ drop (length (bytes self.now) - len) (bytes self.now)) }
+        ensures performs { Does (Call.SliceLast len []) self.now (slice_answer result) self.now }
     {
         if self.cap() < len {
             return Err(BufferTooShortError);
@@ -110,7 +119,7 @@ impl<'a> Octets<'a> {
     /// assert_eq!(cursor.off(), 3);
     /// ```
     #[inline(always)]
-    #[tactic(auto, using(crate::proofs::Cursors::runs))]
+    #[tactic(auto, using(crate::proofs::Cursors::runs), unfolding(crate::specs::Does::Does))]
     pub fn get_bytes_with_u8_length(&mut self) -> Result<Octets<'a>>
         ensures fits { IsOk result
             ↔ (1 + number (take 1 (rest self.old)) ≤ length (rest self.old)) }
@@ -126,6 +135,7 @@ impl<'a> Octets<'a> {
         // This clause follows from those above. It serves a caller that states what it read by
         // `spelled`.
         ensures small { IfOk result (λ v. length (bytes v) < 2 ^ 8) }
+        ensures performs { Does Call.GetBytesU8 self.old (view_answer result) self.new }
     {
         let len = self.get_u8()?;
         self.get_bytes(usize::from(len))
@@ -144,7 +154,7 @@ impl<'a> Octets<'a> {
     /// assert_eq!(cursor.off(), 4);
     /// ```
     #[inline(always)]
-    #[tactic(auto, using(crate::proofs::Cursors::runs))]
+    #[tactic(auto, using(crate::proofs::Cursors::runs), unfolding(crate::specs::Does::Does))]
     pub fn get_bytes_with_u16_length(&mut self) -> Result<Octets<'a>>
         ensures fits { IsOk result
             ↔ (2 + number (take 2 (rest self.old)) ≤ length (rest self.old)) }
@@ -160,6 +170,7 @@ impl<'a> Octets<'a> {
         // This clause follows from those above. It serves a caller that states what it read by
         // `spelled`.
         ensures small { IfOk result (λ v. length (bytes v) < 2 ^ 16) }
+        ensures performs { Does Call.GetBytesU16 self.old (view_answer result) self.new }
     {
         let len = self.get_u16()?;
         self.get_bytes(usize::from(len))
@@ -195,6 +206,7 @@ impl<'a> Octets<'a> {
             × Reads self.old self.new (varint w (length (bytes v)) ++ bytes v)) }
         ensures shorter { OnOk result (remaining self.new < remaining self.old) }
         ensures same_bytes { bytes self.new ≡ bytes self.old }
+        ensures performs { Does Call.GetBytesVarint self.old (view_answer result) self.new }
     {
         let len = self.get_varint()?;
         if len > self.cap() as u64 {

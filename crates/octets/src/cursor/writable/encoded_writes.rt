@@ -10,6 +10,7 @@ use crate::error::BufferTooShortError;
 use crate::huffman::encode::put_words;
 
 impl<B: Buffer> Cursor<B> {
+    ghost use Rattle.octets.specs.Does.{Does, done_answer, put_text};
     ghost use Rattle.octets.specs.Cursor.{bytes, holder, position, rest, Keeps, Writes};
 
     /// Writes the Huffman encoding of `v` (RFC 7541, section 5.2), or of `v` in lower case if
@@ -50,6 +51,7 @@ impl<B: Buffer> Cursor<B> {
         // Each element of `v` is below 256. A caller that reads the encoding back needs to know
         // that.
         ensures are_bytes { AreBytes v.now }
+        ensures performs { Does (put_text LOWER_CASE v.now) self.old (done_answer result) self.new }
     {
         put_words(self, v, LOWER_CASE)
     }

@@ -11,9 +11,13 @@ use crate::cursor::buffer::Buffer;
 use crate::cursor::read_only::Octets;
 use crate::error::{BufferTooShortError, Result};
 
+#[tactic(auto, unfolding(crate::specs::Does::Does))]
 impl<B: Buffer> Cursor<B> {
-    ghost use Rattle.octets.specs.Cursor.{rest, IsViewOf};
+    ghost use Rattle.octets.specs.Calls.{Call};
+    ghost use Rattle.octets.specs.Does.{DoesWhere, view_answer};
+    ghost use Rattle.octets.specs.Cursor.{rest, IsUnchanged, IsViewOf};
     ghost use Rattle.octets.specs.Ends.{EndsPast, EndsPastPrefix, EndsPastVarint, EndsUnchanged};
+    ghost use Rattle.octets.specs.Ends.{IsPast, IsPastPrefix, IsPastVarint};
 
     /// Returns a cursor over the next `len` bytes, and leaves the offset unchanged.
     ///
@@ -31,6 +35,8 @@ impl<B: Buffer> Cursor<B> {
         ensures* leaves { sem 𝓛 (EndsUnchanged B.row B.Bytes self.entry) }
         ensures fits { IsOk result ↔ (len ≤ length (rest self.old)) }
         ensures view { IfOk result (IsViewOf (take len (rest self.old))) }
+        ensures performs { DoesWhere (IsUnchanged self.old)
+            (Call.PeekBytes len) self.old (view_answer result) }
     {
         if len > self.cap() {
             return Err(BufferTooShortError);
@@ -55,6 +61,8 @@ impl<B: Buffer> Cursor<B> {
         ensures* leaves { sem 𝓛 (EndsPast B.row B.Bytes self.entry result len) }
         ensures fits { IsOk result ↔ (len ≤ length (rest self.old)) }
         ensures view { IfOk result (IsViewOf (take len (rest self.old))) }
+        ensures performs { DoesWhere (IsPast self.old result len)
+            (Call.GetBytes len) self.old (view_answer result) }
     {
         if len > self.cap() {
             return Err(BufferTooShortError);
@@ -84,6 +92,8 @@ impl<B: Buffer> Cursor<B> {
             ↔ (1 + number (take 1 (rest self.old)) ≤ length (rest self.old)) }
         ensures view { IfOk result
             (IsViewOf (part (rest self.old) 1 (number (take 1 (rest self.old))))) }
+        ensures performs { DoesWhere (IsPastPrefix self.old result 1)
+            Call.GetBytesU8 self.old (view_answer result) }
     {
         let len = self.get_u8()?;
         self.get_bytes(usize::from(len))
@@ -109,6 +119,8 @@ impl<B: Buffer> Cursor<B> {
             ↔ (2 + number (take 2 (rest self.old)) ≤ length (rest self.old)) }
         ensures view { IfOk result
             (IsViewOf (part (rest self.old) 2 (number (take 2 (rest self.old))))) }
+        ensures performs { DoesWhere (IsPastPrefix self.old result 2)
+            Call.GetBytesU16 self.old (view_answer result) }
     {
         let len = self.get_u16()?;
         self.get_bytes(usize::from(len))
@@ -136,6 +148,8 @@ impl<B: Buffer> Cursor<B> {
             × IfOk result (IsViewOf (part (rest self.old) w n)) }
         ensures view { IfOk result (ShowsPrefixed (rest self.old)) }
         ensures refused { OnErr result (LacksPrefixed (rest self.old)) }
+        ensures performs { DoesWhere (IsPastVarint self.old result)
+            Call.GetBytesVarint self.old (view_answer result) }
     {
         let len = self.get_varint()?;
         if len > self.cap() as u64 {

@@ -18,6 +18,8 @@ use crate::error::{BufferTooShortError, Result};
 /// whose contract counts bytes, `bytes` for one whose contract is about the whole buffer, and
 /// `keeps` for one that makes several calls, each of which can fail.
 impl<B: Buffer> Cursor<B> {
+    ghost use Rattle.octets.specs.Calls.{Call};
+    ghost use Rattle.octets.specs.Does.{Does, done_answer};
     ghost use Rattle.octets.specs.Cursor.{bytes, position, rest, IsUnchanged, Keeps, Writes};
 
     /// Writes all of `v`, and advances the offset past it.
@@ -33,6 +35,7 @@ impl<B: Buffer> Cursor<B> {
     /// assert_eq!(cursor.buf(), [97, 98, 0].as_slice());
     /// ```
     #[inline(always)]
+    #[tactic(auto, unfolding(crate::specs::Does::Does))]
     pub fn put_bytes(&mut self, v: &[u8]) -> Result<()>
         ensures fits { IsOk result ↔ (length v.now ≤ length (rest self.old)) }
         ensures writes { IfOk result (λ _. Writes self.old self.new v.now) }
@@ -40,6 +43,7 @@ impl<B: Buffer> Cursor<B> {
             ≡ splice (bytes self.old) (position self.old) v.now) }
         ensures unchanged { OnErr result (IsUnchanged self.old self.new) }
         ensures keeps { Keeps self.old self.new }
+        ensures performs { Does (Call.PutBytes v.now) self.old (done_answer result) self.new }
     {
         // The offset is never past the end, but rustc can't know that. After this comparison it
         // leaves out the bounds checks below.

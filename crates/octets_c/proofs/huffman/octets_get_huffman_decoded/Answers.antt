@@ -9,4 +9,4 @@ returns-in-Err-clause-every c =
 pub returns-in-Err-clause-refused : goal.returns-in-Err-clause-refused
 returns-in-Err-clause-refused c =
     λ _ _. refused_at c.in-Ok.cursor c.get_huffman_decoded_into-answer.new.self _ _ _ _ c.in-Ok.ensures.stands
-    c.off.ensures c.in-Err.ensures.refused
+    c.off.ensures.position c.in-Err.ensures.refused

@@ -13,7 +13,7 @@ pub returns-clause-passes : goal.returns-clause-passes
 returns-clause-passes c =
     let a = c.args.cursor.now in
     let place = same_place a c.in_ok-ahead.ahead c.read_item.new.cursor c.skip.new.self _ _ _ c.cap.ensures.remaining
-    c.in_ok-ahead.ensures.view c.in_ok-item.ensures.passes c.off.ensures c.in_ok-skip.ensures.passes in
+    c.in_ok-ahead.ensures.view c.in_ok-item.ensures.passes c.off.ensures.position c.in_ok-skip.ensures.passes in
     subst (Passes a c.skip.new.self) place.0 c.in_ok-skip.ensures.passes
 
 pub returns-clause-every : goal.returns-clause-every

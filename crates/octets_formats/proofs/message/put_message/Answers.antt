@@ -17,7 +17,7 @@ returns-clause-writes g c =
     joined (joined c.in_ok-write_u16-2.ensures.writes c.in_ok-write_u16-3.ensures.writes)
     c.in_ok-put_bytes.ensures.writes in
     let count : c.off.result - c.off-start.result ≡ length m =
-    omega (arith, c.off.ensures, c.off-start.ensures, sent.past) in
+    omega (arith, c.off.ensures.position, c.off-start.ensures.position, sent.past) in
     let whole : 2 + (c.off.result - c.off-start.result) ≡ length (network 2 0) + length m =
     omega (arith, count, length_network 2 0) in
     length_last_if r c.args.cursor.now e f h i (network 2 0) (network 2 (length m)) m

@@ -17,7 +17,7 @@ returns-in-Err-clause-failed c =
     let len = ap length f.3 in (
       f.0,
       whole_failure _ c.args.text.now _ _ _ f.0 (length c.args.out.now) view r.1
-          (omega (arith, c.off.ensures, r.2.0, start))
+          (omega (arith, c.off.ensures.position, r.2.0, start))
           f.1 f.2 (omega
           (arith, len, length-append f.0 (drop (length f.0) c.args.out.now), c.get_huffman_decoded_into.auto.out)),
       omega arith,

@@ -2,6 +2,7 @@
 use Rattle.std.proofs.Common.{refl, arith, rules}
 use Rattle.octets.proofs.lemmas.Outcomes.{on_err, none_prefixed, not_prefixed, err_iff, prefixed_by_varint}
 use Rattle.octets.proofs.lemmas.Outcomes.{short_of_varint}
+use Rattle.octets.proofs.lemmas.Performs.{after_varint, short_after_varint, no_varint}
 use Rattle.octets.specs.Cursor.{rest}
 use Rattle.octets.specs.Varints.LacksPrefixed.{no_length, no_bytes}
 use Rattle.octets.proofs.cursor.Cursor.get_bytes_with_varint_length.Goals as goal
@@ -17,6 +18,7 @@ returns-in_err-len g c =
         one = (λ w n v. absurd (none w n v));
         view = search rules;
         refused = on_err r (no_length none);
+        performs = λ t at. no_varint c.args.self.now t r (search rules) none (at.1 none);
       },
     )
 
@@ -33,6 +35,7 @@ returns-then-len-cap g c =
         one = (λ w n v. (err_iff (λ k. omega (arith, (short w n v).0)), tt));
         view = tt;
         refused = no_bytes _ _ read.1 lacking;
+        performs = λ t at. short_after_varint c.args.self.now t read.0 n read.1 lacking (at.0 read.0 n read.1).1;
       },
     )
 
@@ -42,4 +45,15 @@ returns g c =
     let p = prefixed_by_varint c.args.self.now c.get_varint.new.self c.get_bytes.follows.lender-at-none
     c.get_bytes.result read.0 c.in_ok-len.len
     read.1 read.2 (grind arith) view.fits view.view c.get_bytes.follows.holds-at-none in
-    ((refl, (λ _. tt), p.0), record { leaves = tt; fits = p.1; one = p.4; view = p.2; refused = p.3 })
+    let one = p.4 read.0 c.in_ok-len.len read.1 in (
+      (refl, (λ _. tt), p.0),
+      record {
+        leaves = tt;
+        fits = p.1;
+        one = p.4;
+        view = p.2;
+        refused = p.3;
+        performs = λ t at. after_varint c.args.self.now t c.get_bytes.result read.0 c.in_ok-len.len read.1 one.0 one.1
+            (at.0 read.0 c.in_ok-len.len read.1);
+      },
+    )

@@ -1,6 +1,7 @@
 -- The result is that of the call on the slice of the remaining bytes.
 use Rattle.std.proofs.Common.{◌≡◌, Err, rules}
 use Rattle.octets.proofs.CallerLemmas.{reads_varint}
+use Rattle.octets.proofs.lemmas.Performs.{shortest_read, shortest_refused}
 use Rattle.octets.proofs.cursor.Cursor.get_varint_shortest.Goals as goal
 
 pub returns-in_err-value-clause-every : goal.returns-in_err-value-clause-every
@@ -35,3 +36,12 @@ returns-clause-short g c = rw (c.as_slice.ensures, c.in_ok-value.was) at c.read_
 
 pub returns-clause-overlong : goal.returns-clause-overlong
 returns-clause-overlong g c = rw (c.as_slice.ensures, c.in_ok-value.was) at c.read_varint_shortest.ensures.overlong
+
+pub returns-in_err-value-clause-performs : goal.returns-in_err-value-clause-performs
+returns-in_err-value-clause-performs g c =
+    shortest_refused c.args.self.now c.args.self.now c.from_residual.result (search rules)
+    (returns-in_err-value-clause-short g c) (returns-in_err-value-clause-overlong g c) (search rules)
+
+pub returns-clause-performs : goal.returns-clause-performs
+returns-clause-performs g c = let read = returns-clause-value g c in
+    shortest_read c.args.self.now c.advance.new.self c.in_ok-value.value read.0 read.1

@@ -11,5 +11,5 @@ returns c =
     let told = put_ends c.args.cursor.now c.put_wide_then_overwrite.new.cursor (varint c.width.result c.value.result)
     c.args.w.now c.width.result (length_varint c.width.result c.value.result) c.put_wide_then_overwrite.result
     (answer_of c.done_or_short.result) h.fits h.bytes h.position h.unchanged h.same_reference
-    c.done_or_short.ensures.done c.done_or_short.ensures.short in
+    c.done_or_short.ensures in
     rw (← c.width.ensures.width, ← c.value.ensures.value) told

@@ -13,7 +13,7 @@ returns-in_ok-text-in-Err-Short c =
     let n = short.ends.refused.0 in
     let whole = whole_rest start c.args.text.now c.with_slice-cursor.ensures.start c.with_slice-cursor.ensures.bytes in
     let offset : c.off-offset.result ≡ n =
-    omega (arith, short.ends.refused.2.0, c.off-offset.ensures, c.with_slice-cursor.ensures.start) in
+    omega (arith, short.ends.refused.2.0, c.off-offset.ensures.position, c.with_slice-cursor.ensures.start) in
     let line = refused_line (codes "refused at ") _ n (c.in_ok-text-in-Err-Short.ensures.ok
     ∙ ap (λ k. codes "refused at " ++ (decimal k ++ codes "\n")) offset) in
     inr (n, subst (λ t. IsRefusal t c.args.limit n) whole (short.ends.refused.1), grind (arith, line))

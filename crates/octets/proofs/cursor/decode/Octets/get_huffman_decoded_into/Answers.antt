@@ -18,7 +18,7 @@ returns-in-Ok-clause-value c =
     let answer = rw c.unread-text.ensures at c.in-Ok.ensures.answer in
     let front = over_front c.with_slice-value.result c.read_text.new.value c.args.out.now
     c.with_slice-value.ensures.bytes c.with_slice-value.ensures.start c.read_text.ensures.added in
-    (passed c.read_text.new.value, answer, front.0 ∙ sym c.off.ensures, search (rules, front.1))
+    (passed c.read_text.new.value, answer, front.0 ∙ sym c.off.ensures.position, search (rules, front.1))
 
 pub returns-in-Ok-clause-every : goal.returns-in-Ok-clause-every
 returns-in-Ok-clause-every c = let h = returns-in-Ok-clause-value c in
@@ -71,6 +71,6 @@ returns-in-Err-clause-fault c =
     let h = returns-in-Err-clause-front c in
     let front = over_front c.with_slice-value.result c.read_text.new.value c.args.out.now
     c.with_slice-value.ensures.bytes c.with_slice-value.ensures.start c.read_text.ensures.added in
-    let shown = front_of h.0 _ _ _ (front.0 ∙ sym c.off-written.ensures) h.3 in
+    let shown = front_of h.0 _ _ _ (front.0 ∙ sym c.off-written.ensures.position) h.3 in
     let stopped = rw c.unread-text.ensures at c.first_fault.ensures in
     (h.0, h.1, rw shown at stopped, h.3)

@@ -5,6 +5,7 @@ use Rattle.octets.specs.Cursor.{rest}
 use Rattle.octets.specs.Octets.RefusesPrefixed.{no_bytes}
 use Rattle.octets.proofs.CallerLemmas.{reads_run, reads_varint}
 use Rattle.octets.proofs.lemmas.Outcomes.{prefixed_by_varint, read_prefixed, not_prefixed, none_prefixed, err_iff}
+use Rattle.octets.proofs.lemmas.Performs.{after_varint, short_after_varint, no_varint}
 use Rattle.octets.proofs.cursor.read_only.views.Octets.get_bytes_with_varint_length.Goals as goal
 
 pub returns-in_err-len-clause-fits : goal.returns-in_err-len-clause-fits
@@ -45,3 +46,19 @@ returns-clause-reads c =
     let read = c.in_ok-len.ensures.value in let run = c.get_bytes.ensures in
     read_prefixed c.args.self.now c.get_varint.new.self c.get_bytes.new.self c.get_bytes.result read.0
     c.in_ok-len.len read.1 read.2 (grind arith) run.view run.passes
+
+pub returns-in_err-len-clause-performs : goal.returns-in_err-len-clause-performs
+returns-in_err-len-clause-performs c =
+    (no_varint c.args.self.now c.get_varint.new.self c.from_residual.result (search rules) c.in_err-len.ensures.none
+    c.in_err-len.ensures.refused).0
+
+pub returns-then-len-cap-clause-performs : goal.returns-then-len-cap-clause-performs
+returns-then-len-cap-clause-performs c = let read = c.in_ok-len.ensures.value in
+    (short_after_varint c.args.self.now c.get_varint.new.self read.0 c.in_ok-len.len read.1
+    (grind (arith, length-drop)) read.2).0
+
+pub returns-clause-performs : goal.returns-clause-performs
+returns-clause-performs c =
+    let read = c.in_ok-len.ensures.value in let one = returns-clause-one c read.0 c.in_ok-len.len read.1 in
+    (after_varint c.args.self.now c.get_bytes.new.self c.get_bytes.result read.0 c.in_ok-len.len read.1 one.0 one.1
+    (one.2, one.3)).0
