@@ -15,7 +15,7 @@ pub(crate) fn put_first<const N: usize>(to: &mut [u8], bytes: &[u8; N])
 
 /// Overwrites the last `N` bytes.
 #[inline(always)]
-fn put_last<const N: usize>(to: &mut [u8], bytes: &[u8; N])
+pub(crate) fn put_last<const N: usize>(to: &mut [u8], bytes: &[u8; N])
     requires { N ≤ length to.old }
     ensures { to.new ≡ take (length to.old - N) to.old ++ bytes.now }
 {

@@ -1,56 +1,56 @@
--- The bytes of two words, side by side.
-use Rattle.std.proofs.Common.{◌≡◌, ℕ, ◌+◌, ◌-◌, ◌*◌, ◌/◌, ◌%◌, ◌^◌, ◌<◌, ◌≤◌, List, ◌++◌, length, take, drop, bit_and}
-use Rattle.std.proofs.Common.{bit_or, sym, ◌∙◌, ap, arith, append-nil}
+-- Parts of the bytes of a word.
+use Rattle.std.proofs.Common.{◌≡◌, ℕ, ◌+◌, ◌-◌, ◌*◌, ◌/◌, ◌%◌, ◌^◌, ◌≤◌, List, ◌++◌, length, take, drop}
+use Rattle.std.proofs.Common.{sym, ◌∙◌, ap, arith}
+use Rattle.std.proofs.Math.Seq.{take-add}
 use Rattle.std.proofs.lemmas.Grind.{common_steps}
-use Rattle.std.proofs.lemmas.Nat.{pow_pos, shr_split, shr_below, shl_whole, or_shifted, mod_below}
-use Rattle.std.specs.Int.{bytes_high_first}
-use Rattle.octets_code.specs.Bits.{bits_of}
-use Rattle.octets_code.specs.Texts.{bytes_of}
-use Rattle.octets_code.proofs.BitLemmas.{bits_of-cat}
-use Rattle.octets_code.proofs.BytesOf.{bytes_of-number}
-use Rattle.octets.proofs.lemmas.Splices.{network_high}
-use Rattle.octets.proofs.lemmas.Numbers.{length_network}
-use Rattle.octets.proofs.lemmas.WordOps.{mask_is}
+use Rattle.std.proofs.lemmas.List.{take-append-le, take-take}
+use Rattle.std.proofs.lemmas.Nat.{pow_pos, shr_split, mod_below}
+use Rattle.std.specs.Int.{bytes_low_first}
+use Rattle.octets.specs.Windows.{low_bytes}
+use Rattle.octets.proofs.lemmas.Groups.{low_bytes-cat, length-low_bytes, low_of_word}
 
-bytes_of-all : (n v : ℕ) → bytes_of (bits_of (8 * n) v) ≡ bytes_high_first n v
-unfolding bytes_of
-bytes_of-all n v = rw (← append-nil (bits_of (8 * n) v), bytes_of-number, append-nil)
+-- the bytes of a number in two parts, the lower first
+parts : (n k x : ℕ) → low_bytes (n + k) x ≡ low_bytes n (x % 2 ^ (8 * n)) ++ low_bytes k (x / 2 ^ (8 * n))
+parts n k x =
+    ap (low_bytes (n + k)) (sym (shr_split x (8 * n)))
+    ∙ low_bytes-cat n k _ _ (mod_below x _ (pow_pos (8 * n)))
 
--- the bytes of a number in two parts
-cut : (n m a y : ℕ) → y < 2 ^ (8 * m)
-    → bytes_high_first (n + m) (a * 2 ^ (8 * m) + y) ≡ bytes_high_first n a ++ bytes_high_first m y
-cut n m a y h =
-    let k : 8 * (n + m) ≡ 8 * n + 8 * m = omega arith in
-    rw (← bytes_of-all, k, bits_of-cat, bytes_of-number, bytes_of-all)
+inner : (at n : ℕ) (a b c : List ℕ) → length a ≡ at → length b ≡ n → take n (drop at (a ++ (b ++ c))) ≡ b
+inner at n a b c h k = grind (arith, common_steps)
 
-parts : (n m x : ℕ)
-    → bytes_high_first (n + m) x ≡ bytes_high_first n (x / 2 ^ (8 * m)) ++ bytes_high_first m (x % 2 ^ (8 * m))
-parts n m x =
-    ap (bytes_high_first (n + m)) (sym (shr_split x (8 * m)))
-    ∙ cut n m _ _ (mod_below x _ (pow_pos (8 * m)))
+-- the n bytes from one on, as shifts have them
+bytes_from : (at n x : ℕ) → at + n ≤ 8
+    → low_bytes n (x / 2 ^ (8 * at) % 2 ^ (8 * n)) ≡ take n (drop at (low_bytes 8 x))
+bytes_from at n x h =
+    let k : ℕ = 8 - (at + n) in let e : 8 ≡ at + (n + k) = omega (arith, h) in
+    let y : ℕ = x / 2 ^ (8 * at) in
+    let a : List ℕ = low_bytes at (x % 2 ^ (8 * at)) in
+    let b : List ℕ = low_bytes n (y % 2 ^ (8 * n)) in
+    let c : List ℕ = low_bytes k (y / 2 ^ (8 * n)) in
+    let all : low_bytes 8 x ≡ a ++ (b ++ c) =
+    ap (λ m. low_bytes m x) e ∙ parts at (n + k) x ∙ ap (λ l. a ++ l) (parts n k y) in
+    sym (ap (λ l. take n (drop at l)) all ∙ inner at n a b c (length-low_bytes at _) (length-low_bytes n _))
 
-length-high_first : (n v : ℕ) → length (bytes_high_first n v) ≡ n
-length-high_first n v = rw (network_high, length_network)
+pub four_from : (at x : ℕ) → at ≤ 4
+    → bytes_low_first 0 4 (x / 2 ^ (8 * at) % 2 ^ 32) ≡ take 4 (drop at (bytes_low_first 0 8 x))
+four_from at x h = low_of_word 4 _ (omega arith) ∙ bytes_from at 4 x (omega (arith, h))
+    ∙ ap (λ l. take 4 (drop at l)) (sym (low_of_word 8 x (omega arith)))
 
-seam : (n : ℕ) (a b c y : List ℕ) → length a ≡ n → length b ≡ n
-    → a ++ y ≡ take n (a ++ c) ++ drop (length (take n (a ++ c))) (b ++ y)
-seam n a b c y h k = grind (arith, common_steps)
+pub two_from : (at x : ℕ) → at ≤ 6
+    → bytes_low_first 0 2 (x / 2 ^ (8 * at) % 2 ^ 16) ≡ take 2 (drop at (bytes_low_first 0 8 x))
+two_from at x h = low_of_word 2 _ (omega arith) ∙ bytes_from at 2 x (omega (arith, h))
+    ∙ ap (λ l. take 2 (drop at l)) (sym (low_of_word 8 x (omega arith)))
 
--- those of w in the first n bytes, and those of x in the others
-both : (n m w x : ℕ) → bytes_high_first (n + m) (w / 2 ^ (8 * m) * 2 ^ (8 * m) + x % 2 ^ (8 * m))
-    ≡ take n (bytes_high_first (n + m) w) ++ drop (length (take n (bytes_high_first (n + m) w)))
-    (bytes_high_first (n + m) x)
-both n m w x = grind (arith, cut, parts, seam, length-high_first)
-
-pub front_and_past : (n w x : ℕ) → 1 ≤ n → n ≤ 8 → w < 2 ^ 64 → bytes_high_first 8
-    (bit_or (w / 2 ^ (64 - 8 * n) * 2 ^ (64 - 8 * n) % 2 ^ 64) (bit_and x (1 * 2 ^ (64 - 8 * n) % 2 ^ 64 - 1)))
-    ≡ take n (bytes_high_first 8 w) ++ drop (length (take n (bytes_high_first 8 w))) (bytes_high_first 8 x)
-front_and_past n w x some few hw =
-    let p = 8 * (8 - n) in let e : 64 - 8 * n ≡ p = omega arith in let f : n + (8 - n) ≡ 8 = omega arith in
-    let high : w / 2 ^ p < 2 ^ (8 * n) = grind (arith, shr_below) in
-    rw (
-      e,
-      mask_is p x (omega arith),
-      shl_whole _ (8 * n) p 64 high (omega arith),
-      or_shifted _ p _ (mod_below x (2 ^ p) (pow_pos p)),
-    ) (rw f at (both n (8 - n) w x))
+-- the first bytes of w, in two stores of n bytes over old, which may overlap
+pub two_stores : (n len : ℕ) (w old a b m r : List ℕ) → n ≤ len → len ≤ 2 * n → len ≤ length w → length old ≡ len
+    → a ≡ take n w → m ≡ a ++ drop n old → b ≡ take n (drop (len - n) w) → r ≡ take (length m - n) m ++ b
+    → r ≡ take len w
+two_stores n len w old a b m r few most long e first is last ends =
+    let k : length (take n w) ≡ n = grind (arith, common_steps) in
+    let l : length m ≡ len = grind (arith, common_steps) in
+    let x : take (len - n) m ≡ take (len - n) w =
+    ap (take (len - n)) (is ∙ ap (λ l. l ++ drop n old) first)
+    ∙ take-append-le (len - n) (take n w) (drop n old) (omega (arith, k, most))
+    ∙ take-take (len - n) n w (omega (arith, most)) in
+    let f : len ≡ (len - n) + n = omega (arith, few) in
+    rw (ends, l, x, last) (sym (take-add (len - n) n w) ∙ ap (λ j. take j w) (sym f))

@@ -21,7 +21,7 @@ pub(crate) fn put_first<const N: usize>(to: &mut [u8], bytes: &[u8; N]) {
 ///
 /// - `N ≤ length to.old`
 #[inline(always)]
-fn put_last<const N: usize>(to: &mut [u8], bytes: &[u8; N]) {
+pub(crate) fn put_last<const N: usize>(to: &mut [u8], bytes: &[u8; N]) {
     if let Some(last) = to.last_chunk_mut::<N>() {
         *last = *bytes;
     }

@@ -2,6 +2,7 @@
 //! The encoder, which collects bits in words of 64 bits.
 use rattle_std::{self as std, prelude::*};
 
+pub(crate) mod front;
 pub(crate) mod target;
 
 use crate::huffman::case::cased_byte;
@@ -30,16 +31,15 @@ fn put_tail<T: Target>(target: &mut T, tail: &[u8]) -> Result<(), T::Error> {
 }
 
 /// Gives the `len` most significant bytes of `word` to the target, most significant byte first. It
-/// gives them all at once if `at_once` is true and the target can take them so, and otherwise as
-/// `put_tail` does.
+/// gives several bytes at once if the target can take them so, and otherwise as `put_tail` does.
 ///
 /// # Requires
 ///
 /// - `1 ≤ len`
 /// - `len ≤ 8`
 #[inline]
-fn put_last<T: Target>(target: &mut T, word: u64, len: usize, at_once: bool) -> Result<(), T::Error> {
-    if at_once && target.put_at_once(word, len) {
+fn put_last<T: Target>(target: &mut T, word: u64, len: usize) -> Result<(), T::Error> {
+    if len > 1 && target.put_at_once(word, len) {
         Ok(())
     } else {
         put_tail(target, &word_bytes(word)[..len])
@@ -72,10 +72,7 @@ pub(crate) fn put_words<T: Target>(target: &mut T, v: &[u8], to_lower: bool) -> 
     if pending.is_empty() {
         return Ok(());
     }
-    // One or two bytes are written singly. Writing them at once would begin by reading the eight
-    // bytes at the offset, and this read would wait for what the previous call wrote there.
-    let at_once = v.len() > 2;
-    put_last(target, pending.last_word(), pending.byte_len(), at_once)
+    put_last(target, pending.last_word(), pending.byte_len())
 }
 
 /// Appends the Huffman encoding of `v` to `sink`, in lower case if `LOWER_CASE` is true (RFC 7541,
