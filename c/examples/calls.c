@@ -85,6 +85,15 @@ static void widths(void) {
         CHECK(off == width);
     }
     CHECK(octets_varint_len(0) == 1 && octets_varint_len(UINT64_MAX) == 0);
+    for (int first = 0; first < 256; first++) {
+        const uint8_t bytes[8] = {(uint8_t)first};
+        size_t off = 0;
+        uint64_t value = 0;
+        CHECK(octets_get_varint(bytes, sizeof bytes, &off, &value) == OCTETS_DONE);
+        CHECK(octets_varint_parse_len((uint8_t)first) == off);
+    }
+    CHECK(octets_varint_parse_len(0x3f) == 1 && octets_varint_parse_len(0x40) == 2);
+    CHECK(octets_varint_parse_len(0x9d) == 4 && octets_varint_parse_len(0xc2) == 8);
     for (size_t width = 0; width < 10; width++) {
         size_t off = 0;
         bool is_width = width == 1 || width == 2 || width == 4 || width == 8;
@@ -297,6 +306,34 @@ static void pieces(void) {
     off = 0;
     CHECK(octets_put_huffman_encoded(out, 10, &off, value, 13, false) == OCTETS_DONE && off == 9);
     CHECK(memcmp(out, thirteen, 9) == 0 && out[9] == 0xee);
+}
+
+/* After a call that ran short, octets_next_piece returns the rest of the encoding, once it has
+ * returned as many bytes as the call wrote. Here the pieces have 8, 4, 1, 1, 1 and 1 bytes. */
+static void resumed(void) {
+    const uint8_t value[] = "aaaaaaaaaaaaaaaaaaaaaaaaa";
+    const size_t value_len = sizeof value - 1;
+    uint8_t whole[OCTETS_TEXT_MOST(sizeof value)] = {0}, out[sizeof whole], piece[8] = {0};
+    size_t whole_len = 0;
+    CHECK(octets_put_huffman_encoded(whole, sizeof whole, &whole_len, value, value_len, false) ==
+          OCTETS_DONE);
+    for (size_t room = 0; room < whole_len; room++) {
+        octets_place place = {0, 0, 0, 0};
+        size_t off = 0, done = 0, len = 1;
+        memset(out, 0, sizeof out);
+        CHECK(octets_put_huffman_encoded(out, room, &off, value, value_len, false) == OCTETS_SHORT);
+        while (done < off && len > 0) {
+            CHECK(octets_next_piece(value, value_len, false, &place, &piece, &len) == OCTETS_DONE);
+            done += len;
+        }
+        CHECK(done == off && off <= room);
+        do {
+            CHECK(octets_next_piece(value, value_len, false, &place, &piece, &len) == OCTETS_DONE);
+            memcpy(out + off, piece, len);
+            off += len;
+        } while (len > 0 && off < whole_len);
+        CHECK(off == whole_len && memcmp(out, whole, whole_len) == 0);
+    }
 }
 
 /* octets_next_piece returns these pieces one by one, and fails if no encode has the state. */
@@ -606,6 +643,7 @@ int main(void) {
     texts();
     faults();
     pieces();
+    resumed();
     streams();
     arrives();
     stops();

@@ -27,12 +27,8 @@
  * writes the low 24 bits. (octets_next_piece takes a state, the struct octets_place below, and doesn't detect
  * every wrong state.) The library keeps no pointer after a call, has no global state, and allocates no memory.
  *
- * Initialize the whole buffer that you pass to octets_put_huffman_encoded or octets_put_string, for example by
- * calloc or memset. These calls may store eight bytes at once at the end of the encoding. In that case they
- * first read the bytes of your buffer that follow the encoding, and store them again unchanged. If these bytes
- * were never initialized, valgrind may report the end of the encoding as uninitialized too. The library that
- * cargo builds makes Rust references of the pointers. If you link it, initialize everything that a call may
- * write: each buffer, the offset, the octets_place or octets_decoder, and each result.
+ * Memory that a call only writes (the buffer of a put, the output buffer of a decode, and each result) needn't
+ * be initialized: the library reads none of it. The library that cargo builds needs more, which its README says.
  *
  * A call that fails returns a status other than OCTETS_DONE. It then has written nothing through its pointers
  * and has left the offset unchanged, except for what its comment says under `On error`. If the offset is past
@@ -65,18 +61,19 @@
 
 /** This header has the version number of the Rust crate octets whose API it has. Most of its calls are calls of
  * that crate. These calls of that crate have no counterpart here: peek_.., rewind, slice, slice_last, split_at,
- * get_bytes_mut, as_ref, as_mut, to_vec, varint_parse_len, and those that create or describe a cursor, such as
- * with_slice and cap. These calls of this header have no counterpart in that crate: octets_get_bytes_u64,
- * octets_get_varint_shortest, octets_put_bytes_with_varint_length, octets_huffman_text_len, octets_next_piece,
- * octets_decode_piece, octets_decode_end, octets_get_string, octets_put_string, octets_version, octets_status_text
- * and octets_status_name. octets_get_huffman_decoded is the counterpart of get_huffman_decoded and of
+ * get_bytes_mut, as_ref, as_mut, to_vec, and those that create or describe a cursor, such as with_slice and cap.
+ * These calls of this header have no counterpart in that crate: octets_get_bytes_u64, octets_get_varint_shortest,
+ * octets_put_bytes_with_varint_length, octets_huffman_text_len, octets_next_piece, octets_decode_piece,
+ * octets_decode_end, octets_get_string, octets_put_string, octets_version, octets_status_text and
+ * octets_status_name. octets_get_huffman_decoded is the counterpart of get_huffman_decoded and of
  * get_huffman_decoded_with_max_length.
  *
  * OCTETS_VERSION is the version of this header as a number, and octets_version() returns that of the linked library:
  * 1000000 * major + 10000 * minor + 100 * patch + release. The first three numbers are the version of octets. Each
  * release has a greater number of its own, also if it only adds a call, so that `#if OCTETS_VERSION >= 30703` asks
- * for the calls that release 3 added: octets_get_bytes_u64, octets_varint_len, octets_put_bytes_with_varint_length,
- * octets_decode_piece, octets_decode_end and octets_status_name. Before release 3 the number was 307. */
+ * for the calls that release 3 added: octets_get_bytes_u64, octets_varint_len, octets_varint_parse_len,
+ * octets_put_bytes_with_varint_length, octets_decode_piece, octets_decode_end and octets_status_name. Before release 3
+ * the number was 307. */
 #define OCTETS_VERSION 30703
 /** The version of this header as text. pkg-config and meson compare it in this form, and CMake with a period in
  * place of the plus sign. */
@@ -269,6 +266,10 @@ octets_status octets_get_varint_shortest(const uint8_t *bytes, size_t bytes_len,
  * is above OCTETS_VARINT_MAX. */
 size_t octets_varint_len(uint64_t value);
 
+/** octets_varint_parse_len: returns the width of a varint whose first byte is first: 1, 2, 4 or 8 bytes. Every
+ * byte is the first byte of a varint. */
+size_t octets_varint_parse_len(uint8_t first);
+
 /** octets_skip: moves the offset past len bytes.
  * Returns OCTETS_SHORT if and only if fewer than len bytes remain, otherwise OCTETS_DONE.
  * If size_t has 32 bits, C cuts a len of 64 bits to its low 32 bits without a warning. To skip as many bytes as
@@ -377,12 +378,14 @@ octets_status octets_huffman_text_len(const uint8_t *value, size_t value_len, bo
     size_t *OCTETS_RESTRICT len);
 
 /** octets_put_huffman_encoded: writes the Huffman encoding of value. If lower_case is true, A to Z are encoded as
- * a to z. The buffer must be initialized (see above). OCTETS_TEXT_MOST(value_len) bytes always suffice.
+ * a to z. OCTETS_TEXT_MOST(value_len) bytes always suffice.
  * Returns OCTETS_SHORT if and only if fewer bytes remain than the encoding has, otherwise OCTETS_DONE.
  * On error: unless the offset was past the end of the buffer, a prefix of the encoding was written, and the
  * offset is after it. The encoding is divided into pieces: one of eight bytes for each full 64 bits of the
  * codes. The remaining bits are padded to whole bytes. If there are at least four of these bytes, the first four
- * are one piece. Each other byte is a piece of its own. The prefix ends before the first piece that doesn't fit. */
+ * are one piece. Each other byte is a piece of its own. The prefix ends before the first piece that doesn't fit.
+ * To write the rest elsewhere, call octets_next_piece from the start of the encoding until its pieces have as
+ * many bytes as the prefix. The next calls return the rest. */
 OCTETS_CHECKED(3)
 octets_status octets_put_huffman_encoded(uint8_t *OCTETS_RESTRICT bytes, size_t bytes_len,
     size_t *OCTETS_RESTRICT off, const uint8_t *value, size_t value_len, bool lower_case);
@@ -462,8 +465,7 @@ octets_status octets_get_string(const uint8_t *bytes, size_t bytes_len, size_t *
 
 /** octets_put_string: writes the string literal of value: its length in the shortest form, and then the Huffman
  * encoding of value if that is shorter than value, or else value itself. If lower_case is true, A to Z are
- * written as a to z, in both forms. The buffer must be initialized (see above). OCTETS_LITERAL_MOST(value_len)
- * bytes always suffice.
+ * written as a to z, in both forms. OCTETS_LITERAL_MOST(value_len) bytes always suffice.
  * Returns OCTETS_LONG if value_len exceeds OCTETS_LITERAL_MAX; otherwise OCTETS_SHORT if fewer bytes remain than
  * the literal has; otherwise OCTETS_DONE. */
 OCTETS_CHECKED(3)

@@ -492,6 +492,7 @@ static void say_status(void) {
 static void call(void) {
     if (which == 30) {
         mix(octets_varint_len(some_value()));
+        mix(octets_varint_parse_len((uint8_t)next()));
     } else if (which == 31) {
         say_status();
     } else if (which == 0) {

@@ -138,8 +138,7 @@ fn put_literal(cursor: &mut OctetsMut<'_>, value: &[u8], lower_case: bool) -> Re
 
 /// Writes the string literal of value: its length in the shortest form, and then the Huffman
 /// encoding of value if that is shorter than value, or else value itself. If lower_case is true, A
-/// to Z are written as a to z, in both forms. The buffer must be initialized (see above).
-/// OCTETS_LITERAL_MOST(value_len) bytes always suffice.
+/// to Z are written as a to z, in both forms. OCTETS_LITERAL_MOST(value_len) bytes always suffice.
 ///
 /// Returns OCTETS_LONG if value_len exceeds OCTETS_LITERAL_MAX; otherwise OCTETS_SHORT if fewer
 /// bytes remain than the literal has; otherwise OCTETS_DONE.

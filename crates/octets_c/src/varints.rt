@@ -1,12 +1,14 @@
 //! Reads of variable-length integers (RFC 9000, section 16).
-ghost use Rattle.std.specs.Prelude.{◌≡◌, ◌≢◌, ◌⊎◌, ◌↔◌, ℕ, ◌+◌, ◌^◌, ◌<◌, ◌≤◌, drop, length};
+ghost use Rattle.std.specs.Prelude.{◌≡◌, ◌≢◌, ◌⊎◌, ◌↔◌, ℕ, ◌+◌, ◌/◌, ◌^◌, ◌<◌, ◌≤◌, ◌∷◌, List};
+ghost use Rattle.std.specs.Prelude.{drop, length};
+ghost use Rattle.octets.specs.Bytes.{AreBytes};
 ghost use Rattle.octets.specs.Varints.{BeginsVarint, BeginsOverlong};
-ghost use Rattle.octets.specs.Varints.{HasNoVarint, HoldsVarint, shortest};
+ghost use Rattle.octets.specs.Varints.{HasNoVarint, HoldsVarint, IsVarint, IsWidth, shortest};
 ghost use Rattle.octets_c.specs.Statuses.{done, short, overlong};
 
 use crate::cursors::at_byte;
 use crate::status::{DONE, OVERLONG, SHORT};
-use octets::{MAX_VAR_INT, VarintError, varint_len};
+use octets::{MAX_VAR_INT, VarintError, varint_len, varint_parse_len};
 
 /// Reads a varint of any width, even if a smaller width could hold its value.
 ///
@@ -79,4 +81,17 @@ pub extern "C" fn octets_varint_len(value: u64) -> usize
         return 0;
     }
     varint_len(value)
+}
+
+/// Returns the width of a varint whose first byte is first: 1, 2, 4 or 8 bytes. Every byte is the
+/// first byte of a varint.
+#[unsafe(no_mangle)]
+pub extern "C" fn octets_varint_parse_len(first: u8) -> usize
+    ensures width { (b : List ℕ) (w n : ℕ) → IsVarint (first ∷ b) w n → w ≡ result }
+    ensures any { (b : List ℕ) → AreBytes b → length b + 1 ≡ result
+        → (n : ℕ) × IsVarint (first ∷ b) result n }
+    ensures marked { result ≡ 2 ^ (first / 64) }
+    ensures is_width { IsWidth result }
+{
+    varint_parse_len(first)
 }

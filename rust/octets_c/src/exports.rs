@@ -185,6 +185,11 @@ pub extern "C" fn octets_varint_len(value: u64) -> usize {
 }
 
 #[unsafe(no_mangle)]
+pub extern "C" fn octets_varint_parse_len(first: u8) -> usize {
+    octets_c_verified::varints::octets_varint_parse_len(first)
+}
+
+#[unsafe(no_mangle)]
 pub extern "C" fn octets_version() -> u32 {
     octets_c_verified::version::octets_version()
 }

@@ -54,8 +54,8 @@ fn put_text(cursor: &mut OctetsMut<'_>, value: &[u8], lower_case: bool) -> Resul
     }
 }
 
-/// Writes the Huffman encoding of value. If lower_case is true, A to Z are encoded as a to z. The
-/// buffer must be initialized (see above). OCTETS_TEXT_MOST(value_len) bytes always suffice.
+/// Writes the Huffman encoding of value. If lower_case is true, A to Z are encoded as a to z.
+/// OCTETS_TEXT_MOST(value_len) bytes always suffice.
 ///
 /// Returns OCTETS_SHORT if and only if fewer bytes remain than the encoding has, otherwise
 /// OCTETS_DONE.
@@ -64,7 +64,9 @@ fn put_text(cursor: &mut OctetsMut<'_>, value: &[u8], lower_case: bool) -> Resul
 /// written, and the offset is after it. The encoding is divided into pieces: one of eight bytes for
 /// each full 64 bits of the codes. The remaining bits are padded to whole bytes. If there are at
 /// least four of these bytes, the first four are one piece. Each other byte is a piece of its own.
-/// The prefix ends before the first piece that doesn't fit.
+/// The prefix ends before the first piece that doesn't fit. To write the rest elsewhere, call
+/// octets_next_piece from the start of the encoding until its pieces have as many bytes as the
+/// prefix. The next calls return the rest.
 #[inline]
 pub fn octets_put_huffman_encoded(
     bytes: &mut [u8],

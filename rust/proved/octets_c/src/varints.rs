@@ -4,7 +4,7 @@ use rattle_std::{self as std, prelude::*};
 
 use crate::cursors::at_byte;
 use crate::status::{DONE, OVERLONG, SHORT};
-use octets::{MAX_VAR_INT, VarintError, varint_len};
+use octets::{MAX_VAR_INT, VarintError, varint_len, varint_parse_len};
 
 /// Reads a varint of any width, even if a smaller width could hold its value.
 ///
@@ -51,4 +51,11 @@ pub fn octets_varint_len(value: u64) -> usize {
         return 0;
     }
     varint_len(value)
+}
+
+/// Returns the width of a varint whose first byte is first: 1, 2, 4 or 8 bytes. Every byte is the
+/// first byte of a varint.
+#[inline]
+pub fn octets_varint_parse_len(first: u8) -> usize {
+    varint_parse_len(first)
 }
