@@ -1,6 +1,6 @@
 -- What a splice keeps.
 use Rattle.std.proofs.Common.{◌≡◌, ℕ, zero, suc, ◌+◌, ◌≤◌, List, [], ◌∷◌, ◌++◌, length, take, drop, refl, ap, arith}
-use Rattle.std.proofs.Common.{◌∙◌, append-nil, append_assoc, subst, length-drop, min}
+use Rattle.std.proofs.Common.{◌∙◌, append_assoc, subst, length-drop, min}
 use Rattle.std.proofs.lemmas.Grind.{common_steps}
 use Rattle.std.proofs.lemmas.List.{take_at}
 use Rattle.octets.specs.Bytes.{splice, part, network}
@@ -32,16 +32,6 @@ splice_whole l w e = grind (arith, common_steps, splice-front)
 pub part-spliced : (l : List ℕ) (i n : ℕ) (w : List ℕ) → length w ≡ n → i + n ≤ length (splice l i w)
     → part (splice l i w) i n ≡ w
 part-spliced l i n w e h = grind (arith, common_steps, length_splice, splice-parts)
-
--- a splice of w, and then of the bytes that are after it, up to n bytes in all
-pub splice-more : (l : List ℕ) (i : ℕ) (w : List ℕ) (n : ℕ) → splice l i (w ++ drop (length w) (take n (drop i l)))
-    ≡ splice l i w
-splice-more [] i w n = refl
-splice-more (x ∷ l) (suc i) w n = ap (λ t. x ∷ t) (splice-more l i w n)
-splice-more (x ∷ l) zero (y ∷ w) zero = ap (splice (x ∷ l) zero) (append-nil (y ∷ w))
-splice-more (x ∷ l) zero (y ∷ w) (suc n) = ap (λ t. y ∷ t) (splice-more l zero w n)
-splice-more (x ∷ l) zero [] zero = refl
-splice-more (x ∷ l) zero [] (suc n) = ap (λ t. x ∷ t) (splice-more l zero [] n ∙ splice_nothing l zero)
 
 -- w written over a list from i on, cut where the list ends, as a `Vec` has it whose part was lent
 pub splice_refilled : (l : List ℕ) (i : ℕ) (w t : List ℕ)

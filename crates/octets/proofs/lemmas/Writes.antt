@@ -39,28 +39,6 @@ module _ {X : Type 0} {g : Ghosts X} where
   splice_at_ok (Ok x) a b w h = bytes_after a b w h
   splice_at_ok (Err e) a b w h = h
 
--- Writes of more bytes than count, where the additional bytes are written with the values that they had.
-
-module _ {X : Type 0} {g : Ghosts X} where
-  -- the buffer after a write
-  pub buffer_written : (a b : Cursor X g) (w : List ℕ) → Writes a b w
-      → b.buf ≡ g.holding a.buf (splice (bytes a) (position a) w)
-  buffer_written a b w h =
-      rw (
-        ← g.holding_own b.buf,
-        ← g.holding_last b.buf [] (bytes b),
-        h.same_holder,
-        g.holding_last a.buf [] (bytes b),
-        bytes_after a b w h,
-      )
-
-  -- more bytes were written than are passed, and the bytes past them have the values that they had
-  pub passed_less : (a m b : Cursor X g) (bytes_written w : List ℕ) → Writes a m bytes_written → b.buf ≡ m.buf
-      → position b ≡ position a + length w
-      → length w ≤ length bytes_written → splice (bytes a) (position a) bytes_written ≡ splice (bytes a) (position a) w
-      → Writes a b w
-  passed_less a m b bytes_written w h e p fewer same = is_write a b w (omega arith) p (grind (arith, buffer_written))
-
 -- What is unchanged, whatever was written.
 
 module _ {X : Type 0} {g : Ghosts X} where
