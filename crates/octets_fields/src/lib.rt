@@ -7,7 +7,6 @@ pub mod arrays;
 pub mod fixed_lengths;
 pub mod flags;
 pub mod groups;
-pub mod hello;
 pub mod lengths;
 pub mod number_by_width;
 pub mod numbers;

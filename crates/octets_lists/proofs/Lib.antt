@@ -1,5 +1,4 @@
 mod AckEnds
-mod CoapHeads
 mod DhcpOptions
 mod FieldSinks
 mod Fields

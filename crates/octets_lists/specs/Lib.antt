@@ -1,5 +1,4 @@
 pub mod Acks
-pub mod CoapOptions
 pub mod DhcpOptions
 pub mod DomainNames
 pub mod ErrorTexts

@@ -4,7 +4,6 @@
 
 pub mod ack;
 pub mod builder;
-pub mod coap;
 pub mod copies;
 pub mod dhcp;
 pub mod domain_names;
@@ -21,6 +20,5 @@ pub mod name_lists;
 pub mod nested_loops;
 pub mod records;
 pub mod settings;
-pub mod sources;
 pub mod tcp;
 pub mod varint_lists;

@@ -3,7 +3,6 @@
 use octets::{Octets, OctetsMut};
 use octets_fields::arrays::{Point, Transaction, read_array, read_id, read_kind_and_id, read_point, write_transaction};
 use octets_fields::fixed_lengths::{Flow, addresses, read_before_padding, read_flow, read_sealed, view_at};
-use octets_fields::hello::read_hello;
 use octets_fields::padded::{next_padded, read_attribute, read_opaque, read_padded, write_padded};
 use octets_fields::strings::{read_string, read_strings};
 use octets_fields::utf8::{TextError, read_utf8};
@@ -47,17 +46,6 @@ fn pairs_of_numbers() {
     let mut checked = [9; 3];
     assert!(write_checked(&mut OctetsMut::with_slice(&mut checked), &Sum, &[200, 100]).is_ok());
     assert_eq!(checked, [200, 100, 44]);
-}
-
-#[test]
-fn hello_with_two_names() {
-    let bytes = [1, 0, 0, 1, 2, 1, 0xaa, 2, 0xbb, 0xcc];
-    let hello = read_hello(&mut Octets::with_slice(&bytes));
-    assert!(hello.is_ok_and(|h| h.0 == 1
-        && h.1 == 258
-        && h.2.buf() == [0xaa].as_slice()
-        && h.3.buf() == [0xbb, 0xcc].as_slice()));
-    assert!(read_hello(&mut Octets::with_slice(&bytes[..9])).is_err());
 }
 
 #[test]

@@ -13,7 +13,6 @@ use octets_lists::marked::{ListError, pass_list};
 use octets_lists::name_lists::pass_names;
 use octets_lists::nested_loops::count_numbers;
 use octets_lists::settings::read_settings;
-use octets_lists::sources::SourceAddresses;
 use octets_lists::varint_lists::read_varints;
 use rattle_std::alloc::Global;
 
@@ -32,9 +31,6 @@ fn lists_of_ids() {
     let mut written = [9; 6];
     assert!(write_ids(&mut OctetsMut::with_slice(&mut written), &[37, 15_293, 37]).is_ok());
     assert_eq!(written, [0x25, 0x7b, 0xbd, 0x25, 9, 9]);
-    let mut sources = SourceAddresses::of(Octets::with_slice(&bytes[1..8]));
-    assert_eq!(sources.next(), Some(1));
-    assert!(sources.next().is_none());
 }
 
 #[test]
