@@ -20,6 +20,7 @@
 mod cursors;
 mod decoder;
 mod huffman;
+#[doc(hidden)]
 mod laws;
 mod literals;
 mod numbers;

@@ -5,7 +5,7 @@ ghost use Rattle.octets_pieces.specs.Laws.{NothingIsRead, ReadsJoin, ReadIsCut, 
 ghost use Rattle.octets_pieces.specs.Laws.{EndIsText, FailureIsOne, AnswerIsOne, NeverBoth};
 ghost use Rattle.octets_pieces.specs.Laws.{EndFails, RoomFails, RestFails, DecodeIsOne, StopIsOne};
 
-/// However the bytes are cut into pieces, and wherever a decode stops for want of room, what is
+/// However the bytes are cut into pieces, and wherever a decode stops for lack of space, what is
 /// read of the pieces is what is read of the joined bytes. If 0 to 7 one bits are left, the bytes
 /// that were read are the encoding of those that were written.
 pub fn reads_join()

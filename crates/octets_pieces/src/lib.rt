@@ -6,6 +6,7 @@ mod byte_step;
 mod decoder;
 mod error;
 mod joined;
+#[doc(hidden)]
 pub mod laws;
 mod tables;
 

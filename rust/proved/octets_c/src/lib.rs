@@ -25,6 +25,7 @@ use rattle_std::{self as std, prelude::*};
 pub mod cursors;
 pub mod decoder;
 pub mod huffman;
+#[doc(hidden)]
 pub mod laws;
 pub mod literals;
 pub mod numbers;

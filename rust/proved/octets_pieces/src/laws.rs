@@ -3,7 +3,7 @@
 //! `specs/Laws.antt`.
 use rattle_std::{self as std, prelude::*};
 
-/// However the bytes are cut into pieces, and wherever a decode stops for want of room, what is
+/// However the bytes are cut into pieces, and wherever a decode stops for lack of space, what is
 /// read of the pieces is what is read of the joined bytes. If 0 to 7 one bits are left, the bytes
 /// that were read are the encoding of those that were written.
 #[inline]

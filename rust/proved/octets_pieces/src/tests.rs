@@ -1,6 +1,6 @@
 // Erased from crates/octets_pieces/src/tests.rt by tools/erase.
 //! Tests with the encodings of RFC 7541, Appendix C.4 and C.6, cut at every place; with EOS; and
-//! with too little room.
+//! with too little space.
 use rattle_host::{self as std, prelude::*, assert};
 
 use crate::{
@@ -34,7 +34,7 @@ static ROWS: [Row; 12] = [
      b"foo=ASDJKHQKBZXOQWEOPIUAXQWEOIU; max-age=3600; version=1"),
 ];
 
-/// Whether the two parts of the encoding have the value, and with too little room the begin of it.
+/// Whether the two parts of the encoding have the value, and with too little space its beginning.
 fn is_decoded_in_two(text: &[u8], cut: usize, value: &[u8]) -> bool {
     let (Some(first), Some(second)) = (text.get(..cut), text.get(cut..)) else {
         return false;
