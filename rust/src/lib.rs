@@ -79,7 +79,8 @@
 //!
 //! The documentation of each call says when the call fails, and where the offset is then. Only these calls panic
 //! because of their arguments: [`varint_len`], [`OctetsMut::put_varint`] and [`OctetsMut::put_varint_with_len`], and with
-//! the feature `more` the method and the function `put_string`. Their documentation says when.
+//! the feature `more` the method and the function `put_string`, and the methods of `OctetsWriterExt` that write a varint.
+//! Their documentation says when.
 //!
 //! If an allocation fails the program ends, as it does with vectors of Rust: by `handle_alloc_error`, or by the panic
 //! `capacity overflow` if no allocation can be so large. The feature `more` has calls that return an error instead.
@@ -96,7 +97,8 @@
 //!
 //! - this crate's methods, which call the verified functions, and are generated where the signature is the same; and `to_vec`,
 //!   which copies what the verified `as_ref` lends by `to_vec` of Rust's slices;
-//! - the comparison in [`varint_len`] and [`OctetsMut::put_varint`] that panics if no varint holds the number;
+//! - the comparison in [`varint_len`], [`OctetsMut::put_varint`] and the methods of `OctetsWriterExt` that panics if no varint
+//!   holds the number;
 //! - what [`OctetsMut::put_varint_with_len`] does with a width that no varint has (`src/unfit.rs`);
 //! - the vector of zeros into which a Huffman decode writes, and its end (`src/cursors/octets.rs`);
 //! - the crate `rattle_std`, which has vectors whose allocations return an error.
@@ -116,6 +118,8 @@ mod forwards;
 mod cursors;
 #[cfg(feature = "more")]
 pub mod more;
+#[cfg(feature = "more")]
+mod sink_writes;
 mod unfit;
 #[cfg(feature = "more")]
 mod verified;

@@ -1,6 +1,7 @@
 //! The feature `more` adds what the verified library has and `octets` 0.3.7 lacks: calls that return an error if an
 //! allocation fails, decoding into a slice, decoding of an encoding that comes in pieces, a reader that accepts varints
-//! of the shortest width only, string literals of HPACK (RFC 7541, section 5.2), and an [`OctetsWriter`] that grows.
+//! of the shortest width only, string literals of HPACK (RFC 7541, section 5.2), an [`OctetsWriter`] that grows, and writes
+//! of numbers and varints to every [`OctetsWriter`] (see [`OctetsWriterExt`]).
 //! String literals of QPACK with a length prefix of other than seven bits aren't covered.
 //!
 //! This program writes the string literals of a header block to a vector, and reads them:
@@ -44,6 +45,7 @@ use core::result::Result;
 use octets_literal as literal;
 use rattle_std::alloc::Global;
 
+pub use crate::sink_writes::OctetsWriterExt;
 pub use octets_code::Steps;
 pub use octets_literal::{LiteralError, MAX_LITERAL_LEN};
 pub use octets_pieces::{Decoder, EosError, IncompleteError, PiecesError, Progress, decode_pieces};
@@ -271,10 +273,20 @@ impl OctetsWriter for Vec<u8> {
 
     #[inline]
     fn put_bytes(&mut self, v: &[u8]) -> Result<(), AllocError> {
-        self.try_reserve(v.len()).map_err(|_| AllocError)?;
+        if self.capacity() - self.len() < v.len() {
+            grow(self, v.len())?;
+        }
         self.extend_from_slice(v);
         Ok(())
     }
+}
+
+/// Reserves memory for so many more bytes. It is `inline` so that each crate compiles it, and LLVM sees that it keeps no
+/// pointer to the vector; and `cold` so that it stays a call.
+#[cold]
+#[inline]
+fn grow(bytes: &mut Vec<u8>, more: usize) -> Result<(), AllocError> {
+    bytes.try_reserve(more).map_err(|_| AllocError)
 }
 
 #[cfg(test)]

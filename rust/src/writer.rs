@@ -54,10 +54,10 @@ pub trait OctetsWriter {
 
 /// Makes a sink of this crate one that the verified encoder accepts.
 #[cfg(feature = "huffman_hpack")]
-pub(crate) struct Sink<'a, W>(pub(crate) &'a mut W);
+pub(crate) struct Sink<'a, W: ?Sized>(pub(crate) &'a mut W);
 
 #[cfg(feature = "huffman_hpack")]
-impl<W: OctetsWriter> proved::OctetsWriter for Sink<'_, W> {
+impl<W: OctetsWriter + ?Sized> proved::OctetsWriter for Sink<'_, W> {
     type Error = W::Error;
 
     #[inline]

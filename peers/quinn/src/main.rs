@@ -4,6 +4,7 @@
 mod race;
 
 use bytes::Bytes;
+use octets::more::{AllocError, OctetsWriterExt};
 use octets::{Octets, OctetsMut};
 use quinn_proto::coding::{BufExt, BufMutExt};
 use std::arch::asm;
@@ -37,6 +38,14 @@ mod ours {
             }
         }
         cursor.off()
+    }
+
+    pub fn append(numbers: &[u64], out: &mut Vec<u8>) -> Result<usize, AllocError> {
+        out.clear();
+        for number in numbers {
+            out.write_varint(*number)?;
+        }
+        Ok(out.len())
     }
 
     pub fn read(bytes: &[u8]) -> u64 {
@@ -76,6 +85,14 @@ mod theirs {
             rest.write_var(*number);
         }
         room - rest.len()
+    }
+
+    pub fn append(numbers: &[u64], out: &mut Vec<u8>) -> usize {
+        out.clear();
+        for number in numbers {
+            out.write_var(*number);
+        }
+        out.len()
     }
 
     pub fn read(mut rest: Bytes) -> u64 {
@@ -169,6 +186,14 @@ fn varints(count: usize, many: &str) {
         theirs::write(black_box(&numbers), black_box(&mut b))
     );
     assert_eq!(a, b, "both write the same");
+    row!(
+        format!("write varints to a vector{many}"),
+        count,
+        ours::append(black_box(&numbers), black_box(&mut a)).expect("the vector has room"),
+        theirs::append(black_box(&numbers), black_box(&mut b))
+    );
+    assert_eq!(a, b, "both append the same");
+    a.resize(8 * count, 0);
     let written = ours::write(&numbers, &mut a);
     a.truncate(written);
     let packet = Bytes::from(a.clone());

@@ -194,3 +194,35 @@ fn a_vector_that_gets_no_memory_is_unchanged() {
     // A Huffman encoding is appended in pieces, and the first of them needs an allocation, which fails.
     assert!(failing_after(0, || bytes.put_huffman_encoded::<false>(b"aaaaa")).1);
 }
+
+/// A number is one call of the vector, so it needs one allocation at most. If that fails, no byte of the number is written.
+#[test]
+fn a_number_that_gets_no_memory_writes_nothing() {
+    type Write = fn(&mut Vec<u8>) -> Result<(), AllocError>;
+    let writes: [(Write, usize); 9] = [
+        (|bytes| bytes.write_u8(7), 1),
+        (|bytes| bytes.write_u16(7), 2),
+        (|bytes| bytes.write_u24(7), 3),
+        (|bytes| bytes.write_u32(7), 4),
+        (|bytes| bytes.write_u64(7), 8),
+        (|bytes| bytes.write_varint(64), 2),
+        (|bytes| bytes.write_varint(1 << 14), 4),
+        (|bytes| bytes.write_varint_with_len(7, 8), 8),
+        (|bytes| bytes.write_bytes_with_varint_length(b""), 1),
+    ];
+    for (write, len) in writes {
+        for room in 0..len {
+            let mut bytes = Vec::new();
+            bytes.reserve_exact(room);
+            assert_eq!((failing_after(0, || write(&mut bytes)), bytes.len()), ((Err(AllocError), true), 0));
+            assert_eq!((failing_after(1, || write(&mut bytes)), bytes.len()), ((Ok(()), false), len));
+        }
+        let mut bytes = Vec::new();
+        bytes.reserve_exact(len);
+        assert_eq!((failing_after(0, || write(&mut bytes)), bytes.len()), ((Ok(()), false), len));
+    }
+    let mut bytes = Vec::new();
+    bytes.reserve_exact(2);
+    let (put, failed) = failing_after(0, || bytes.write_bytes_with_varint_length(b"ab"));
+    assert_eq!((put, failed, &bytes[..]), (Err(AllocError), true, &b"\x02"[..]));
+}
