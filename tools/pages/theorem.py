@@ -82,7 +82,7 @@ This page is for you if you review the library. It has all that the sentence in 
 - `P ↔ Q` is "P if and only if Q", `×` "and", `⊎` "or", `→` "implies", and `¬` "not". `(v : T) → P` is "P for each v", and `(v : T) × P` "P for some v". `λ v. P` is the function of v. `f x y` is `f(x, y)` in Rust, and `c.off` is a field.
 - A clause is shown as in the pages CONTRACTS.md: `S` is what `self` points to at the call, and `S'` at the return; so are `x.old` and `x.new` of another argument. A starred clause says what a loan leaves once it ends. `requires` is a condition on the caller.
 - A definition follows the first clause or definition that uses it. `-- octets_code Texts:31` is its place, line 31 of `crates/octets_code/specs/Texts.antt`; the words after it are its comment there. `-- octets cursor:23` above a function is line 23 of `crates/octets/src/cursor.rt`.
-- A definition by one equation is shown as `name (argument : type) : type = value`; the sources have the types on a line of their own. What these have in braces, such as `{{X : Type 0}} {{g : Ghosts X}}`, isn't shown: X is any type of buffer. Nor are arguments that all definitions of a section have: `B.row B.Bytes` in a clause with `LendsPart` are the type of the buffer and its `impl Bytes`. `Type 0` is the type of statements, and of types.
+- A definition by one equation is shown as `name (argument : type) : type = value`; the sources have the types on a line of their own. What these have in braces, such as `{{X : Type 0}} {{g : Ghosts X}}`, isn't shown: X is any type of buffer. Nor is the value of `text`, which a clause determines, nor are arguments that all definitions of a section have: `B.row B.Bytes` in a clause with `LendsPart` are the type of the buffer and its `impl Bytes`. `Type 0` is the type of statements, and of types.
 - Lines that differ only in names of constructors or in numerals are one line: `f A/B = 1/2` is `f A = 1` and `f B = 2`. `..` is the same list of names again.
 - A `record` is a structure. As a statement it is true if its fields have values, and those that are statements are true.
 - `C.GetU8` is the variant `GetU8` of the enum `Command`, and `R.Done` the variant `Done` of `Reply`.
@@ -128,6 +128,8 @@ MADE = {
     "ghosts": "the same for slices, as the `impl` says: the bytes of `b` are `b.now`",
     "the_row": "the type `Cursor<B>` as the logic has it",
 }
+# Definitions that a clause of the page determines. How the sources compute them isn't shown.
+FIXED = {"text": "the clause `value` of `texts_apart` says which list this is"}
 WIDTH = 120
 # From so many cases on, a definition is shown without the comments in it, and with like cases in one line.
 MANY = 4
@@ -136,8 +138,8 @@ MANY = 4
 class Reached:
     """The definitions that clauses reach, names of the kit with their modules, and those of items of Rust."""
 
-    def __init__(self):
-        self.definitions, self.kit, self.rust = {}, {}, {}
+    def __init__(self, fixed=()):
+        self.definitions, self.kit, self.rust, self.fixed = {}, {}, {}, fixed
 
     def read(self, text, known):
         """Adds what a text uses. Each capital name of it has to be known."""
@@ -156,7 +158,8 @@ class Reached:
             self.definitions[definition] = None
             here = f"Rattle.{definition.crate()}.specs.{definition.path.stem}"
             known = {name: (here, name) for name in file.own} | file.imports
-            self.read("\n".join(definition.lines), known)
+            if definition.name not in self.fixed:
+                self.read("\n".join(definition.lines), known)
 
 
 @cache
@@ -168,7 +171,7 @@ def items(crate):
 
 def functions(crate, name, wanted):
     """(place, lines of its file, function, its conditions and its clauses of these names) of each function of this name that
-    has all these clauses. `*::name` has any owner."""
+    has all these clauses. `*::name` has any owner, and `*` is any function."""
     found = []
     for path, lines, item in items(crate):
         if item.name == name or name[:1] == "*" and item.name.endswith(name[1:]):
@@ -262,7 +265,7 @@ def displayed(definition):
     if head.startswith("record "):
         return definition.lines
     if not definition.is_data and (lines := in_one([head, *below])):
-        return lines
+        return [f"{lines[0].partition(' = ')[0]}   -- {FIXED[definition.name]}"] if definition.name in FIXED else lines
     begins = r"\n(?=  \w)" if definition.is_data else rf"\n(?={re.escape(definition.name)} )"
     clauses = re.split(begins, "\n".join(["", *below]))[1:]
     if len(clauses) < MANY:
@@ -309,10 +312,10 @@ def rust_rows(used, signatures):
 
 
 def page():
-    shown, whole, summary, out, signatures = {}, Reached(), [], [], []
+    shown, whole, summary, out, signatures = {}, Reached(FIXED), [], [], []
     for said, meaning, calls in PARTS:
         found = [it for crate, name, wanted in calls for it in functions(crate, name, wanted.split())]
-        own, clauses = Reached(), []
+        own, clauses = Reached(FIXED), []
         out += [f"## {said[0].upper()}{said[1:]}", "", meaning, "", "```text"]
         for place, lines, item, stated in found:
             known = dict(specs.imports(lines))
