@@ -1,11 +1,15 @@
 //! HTTP/3 frames (RFC 9114, section 7.1): a type, a length, and as many bytes of payload.
 ghost use Rattle.std.specs.Prelude.{◌≡◌, ◌↔◌, ◌+◌, ◌^◌, ◌≤◌, ◌<◌, ◌++◌, ℕ};
-ghost use Rattle.std.specs.Prelude.{List, length, IsOk, IsOkAnd, IfOk, OnErr};
+ghost use Rattle.std.specs.Prelude.{List, length, IsOk, IsOkAnd, IfOk, IfSome, OnOk, OnErr};
 ghost use Rattle.octets.specs.Cursor.{bytes, position, rest, Advances, IsUnchanged, Passes, Writes};
+ghost use Rattle.octets.specs.Sinks.{AppendsFront, capacity_of};
 ghost use Rattle.octets.specs.Varints.{shortest};
 ghost use Rattle.octets_formats.specs.Frames.{frame, BeginsFrame, IsRefusedAt};
 
-use octets::{Buffer, BufferTooShortError, Cursor, Octets, Result, varint_len};
+use octets::{
+    Buffer, BufferTooShortError, Cursor, Octets, OctetsWriter, Result, varint_len,
+    write_bytes_with_varint_length, write_varint,
+};
 
 /// A frame.
 #[derive(Debug, Drop, PartialEq, Eq)]
@@ -86,4 +90,31 @@ pub fn put_frame<B: Buffer>(cursor: &mut Cursor<B>, kind: u64, payload: &[u8]) -
     cursor.write_varint(kind)?;
     cursor.write_varint(len)?;
     cursor.put_bytes(payload)
+}
+
+/// Appends a frame to any sink, with its type and its length in the least width. The type and the
+/// length of the payload must be below 2 to the power 62.
+///
+/// The call stops at the first call on the sink that fails, and what was appended before stays
+/// appended.
+#[tactic(auto, using(octets::proofs::CallerLemmas::sinks, octets::proofs::CallerLemmas::length_varint))]
+pub fn append_frame<W: OctetsWriter>(
+    sink: &mut W,
+    kind: u64,
+    payload: &[u8],
+) -> std::result::Result<(), W::Error>
+    requires kind { kind < 2 ^ 62 }
+    requires small { length payload.now < 2 ^ 62 }
+    ensures ok { OnOk result
+        (W.written sink.new ≡ W.written sink.old ++ frame kind payload.now) }
+    ensures err { OnErr result
+        (AppendsFront (W.written sink.old) (W.written sink.new) (frame kind payload.now)) }
+    ensures fits { IfSome (W.room sink.old) (λ c. IsOk result ↔ (shortest kind
+        + shortest (length payload.now) + length payload.now ≤ c)) }
+    ensures capacity { capacity_of (W.written sink.new) (W.room sink.new)
+        ≡ capacity_of (W.written sink.old) (W.room sink.old) }
+    ensures same_kind { W.whole sink.new ≡ W.whole sink.old }
+{
+    write_varint(sink, kind)?;
+    write_bytes_with_varint_length(sink, payload)
 }
