@@ -78,4 +78,5 @@ pub record StopsAt (l r : List ℕ) (m : ℕ) (why : LiteralError) : Type 0 wher
   pub values : List (List ℕ)
   pub read : AreLiterals l values r
   pub within : All (λ v. length v ≤ m) values
-  pub refused : ((0 < length r) × IsRefused r m why) ⊎ ((why ≡ OutOfMemory) × (0 < length values) × Refused (length values))
+  pub refused : ((0 < length r) × IsRefused r m why)
+      ⊎ ((why ≡ OutOfMemory) × (0 < length values) × Refused (length values))

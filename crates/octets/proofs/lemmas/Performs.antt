@@ -13,7 +13,8 @@ use Rattle.octets.specs.Cursor.{Writes}
 use Rattle.octets.specs.Octets.{Octets}
 use Rattle.octets.proofs.CallerLemmas.{passes_more}
 use Rattle.octets.specs.Writing.{bytes_after}
-use Rattle.octets.specs.Calls.{GetVarintShortest, GetBytesVarint, SliceLast, Decode, Answer, Done, Number, Bytes, Short, Overlong}
+use Rattle.octets.specs.Calls.{GetVarintShortest, GetBytesVarint, SliceLast, Decode, Answer, Done, Number, Bytes}
+use Rattle.octets.specs.Calls.{Short, Overlong}
 use Rattle.octets.specs.Steps.{ends, bytes_left, gets_behind, gets_prefixed, puts_text}
 use Rattle.octets.specs.Does.{Does, put_text, done_answer, varint_answer, view_answer, value_answer}
 use Rattle.octets.specs.Decodes.{EndsDecode, UnlessMemory}

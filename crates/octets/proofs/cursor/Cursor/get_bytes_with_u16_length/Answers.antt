@@ -10,7 +10,15 @@ unfolding Does
 returns-in_err-len g c =
     let s = c.args.self.now in let r = c.from_residual.result in let err : IsErr r = search rules in
     let lacks : length (rest s) < 2 = grind arith in (
-      (refl, (λ _. tt), (search rules, (λ has. absurd (omega (arith, lacks, has))), (λ _. c.in_err-len.ensures.refused))),
+      (
+        refl,
+        (λ _. tt),
+        (
+          search rules,
+          (λ has. absurd (omega (arith, lacks, has))),
+          (λ _. c.in_err-len.ensures.refused),
+        ),
+      ),
       record {
         leaves = tt;
         fits = grind arith;
@@ -32,6 +40,7 @@ returns g c =
         leaves = tt;
         fits = two.0;
         view = two.1;
-        performs = λ t at. let told = after_number s t r 2 has two.0 two.1 at.0 (at.1 has) in ((told.0, told.1), told.2);
+        performs = λ t at. let told = after_number s t r 2 has two.0 two.1 at.0 (at.1 has) in
+            ((told.0, told.1), told.2);
       },
     )

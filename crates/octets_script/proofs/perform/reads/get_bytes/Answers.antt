@@ -13,12 +13,14 @@ or_go_back-requires c = let read = c.get_bytes in
 
 pub returns-clause-answers : goal.returns-clause-answers
 returns-clause-answers c = let read = c.get_bytes in let back = c.or_go_back.ensures in
-    rw back.same_reply (copied (GetBytes c.args.len) c.args.cursor.now read.follows.lender-at-none c.or_go_back.new.cursor _
+    rw back.same_reply (copied (GetBytes c.args.len) c.args.cursor.now read.follows.lender-at-none
+    c.or_go_back.new.cursor _
     (read.ensures.performs read.follows.lender-at-none read.follows.holds-at-none) back.same_bytes back.same_reference
     c.copied_reply-reply.result c.copied_reply-reply.ensures.copied back.stays)
 
 pub returns-clause-refused : goal.returns-clause-refused
 returns-clause-refused c = let read = c.get_bytes in let back = c.or_go_back.ensures in
-    rw back.same_reply (lacking (GetBytes c.args.len) c.args.cursor.now read.follows.lender-at-none c.or_go_back.new.cursor _
+    rw back.same_reply (lacking (GetBytes c.args.len) c.args.cursor.now read.follows.lender-at-none
+    c.or_go_back.new.cursor _
     (read.ensures.performs read.follows.lender-at-none read.follows.holds-at-none) back.same_bytes back.same_reference
     c.copied_reply-reply.result c.copied_reply-reply.ensures.refused (rw c.off-from.ensures.position at back.back))
