@@ -23,6 +23,7 @@ mod owned;
 mod pieces;
 mod runs;
 mod scripts;
+mod sink_writes;
 mod texts;
 mod varints;
 mod views;
