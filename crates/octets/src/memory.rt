@@ -1,5 +1,5 @@
 //! The only functions of this crate that call the allocator.
-ghost use Rattle.std.specs.Prelude.{◌≡◌, [], length, vec_capacity, IfOk, OnOk, OnErr, IsOk};
+ghost use Rattle.std.specs.Prelude.{◌≡◌, [], vec_capacity, IfOk, OnOk, OnErr, IsOk};
 ghost use Rattle.octets.specs.Requests.{Granted, Refused};
 
 use std::alloc::{AllocError, Global};

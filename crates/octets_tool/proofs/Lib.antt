@@ -8,6 +8,7 @@ pub mod LineWords
 pub mod NamedRows
 pub mod OutputLaws
 pub mod PacketLaws
+pub mod Requests
 pub mod Rows
 pub mod ScriptLines
 pub mod Spelled

@@ -1,7 +1,7 @@
 -- The line of a command and its words: the first names an entry of the table, and the others are read by the kinds
 -- of this entry.
 use Rattle.std.proofs.Common.{◌≡◌, ◌↔◌, ℕ, zero, suc, ◌^◌, ◌<◌, ◌≤◌, lit≤, Bool, true, false, ◌&&◌, ◌||◌, nat_lt, eqb}
-use Rattle.std.proofs.Common.{List, [], ◌∷◌, length, map, codes, Option, Some, None, Result, IfOk, get_or, inl, inr}
+use Rattle.std.proofs.Common.{List, [], ◌∷◌, length, map, codes, Option, Some, None, Result, Ok, Err, get_or, inl, inr}
 use Rattle.std.proofs.Common.{refl, ap, sym, subst, ◌∙◌, arith}
 use Rattle.std.specs.Prelude.{⊤}
 use Rattle.std.proofs.lemmas.Slice.Eq.{bytes_eq-Decides}
@@ -14,7 +14,7 @@ use Rattle.std.specs.List.{All, list_all, slice_split, join_with_byte}
 use Rattle.std.specs.Str.Parse.{digits_value}
 use Rattle.std.proofs.Math.Decide.{dec_lt, map_dec}
 use Rattle.std.proofs.lemmas.Fmt.{decimal_is_IsNumeral}
-use Rattle.std.proofs.lemmas.Result.{IfOk-weaker}
+use Rattle.octets_tool.specs.Requests.{OrRefused}
 use Rattle.std.proofs.lemmas.List.Elements.{All-nil, All-cons}
 use Rattle.std.proofs.lemmas.List.Splits.{join_with_byte-slice_split}
 use Rattle.std.proofs.lemmas.Str.{IsUtf8-from_ascii}
@@ -175,16 +175,18 @@ by_words l words cut o read c = let line = subst (λ ws. AreWordsOf ws c ↔ IsL
 -- the same for the result of a reader
 pub by_line : {E : Type 0} (r : Result (Option Command) E) (l : List ℕ) (words : List (List ℕ))
     → slice_split (λ b. eqb b 32) l ≡ words
-    → IfOk r (λ o. (c : Call) → (option_map call_of o ≡ Some c) ↔ AreWordsOf words c)
-    → IfOk r (λ o. (c : Call) → (option_map call_of o ≡ Some c) ↔ IsLineOf l c)
-by_line r l words cut read = IfOk-weaker r _ _ (λ o. by_words l words cut (option_map call_of o)) read
+    → OrRefused r (λ o. (c : Call) → (option_map call_of o ≡ Some c) ↔ AreWordsOf words c)
+    → OrRefused r (λ o. (c : Call) → (option_map call_of o ≡ Some c) ↔ IsLineOf l c)
+by_line (Ok o) l words cut read = by_words l words cut (option_map call_of o) read
+by_line (Err e) l words cut refused = refused
 
 -- what is found by words of these kinds is found by the words, where no others spell a command
 pub by_kinds : {E : Type 0} (r : Result (Option Command) E) (ks : List WordKind) (words : List (List ℕ))
     → ((c : Call) → AreWordsBy ks words c ↔ AreWordsOf words c)
-    → IfOk r (λ o. (c : Call) → (option_map call_of o ≡ Some c) ↔ AreWordsBy ks words c)
-    → IfOk r (λ o. (c : Call) → (option_map call_of o ≡ Some c) ↔ AreWordsOf words c)
-by_kinds r ks words same read = grind (arith, IfOk-weaker)
+    → OrRefused r (λ o. (c : Call) → (option_map call_of o ≡ Some c) ↔ AreWordsBy ks words c)
+    → OrRefused r (λ o. (c : Call) → (option_map call_of o ≡ Some c) ↔ AreWordsOf words c)
+by_kinds (Ok o) ks words same read = grind arith
+by_kinds (Err e) ks words same refused = refused
 
 -- what is found for the arguments that words of these kinds spell
 pub read_by : (ks : List WordKind) (name : List ℕ) (xs : List Argument) (ws : List (List ℕ)) → map word_kind xs ≡ ks

@@ -8,6 +8,7 @@ pub mod Names
 pub mod Output
 pub mod Packets
 pub mod Replies
+pub mod Requests
 pub mod Scripts
 pub mod Streams
 pub mod Words

@@ -1,7 +1,8 @@
 //! The commands. Each computes the whole output from the input.
-ghost use Rattle.std.specs.Prelude.{◌≤◌, length, IfOk};
+ghost use Rattle.std.specs.Prelude.{◌≤◌, length};
 ghost use Rattle.octets_tool.specs.Limits.{most_input};
 ghost use Rattle.octets_tool.specs.Output.{IsOutput, shown};
+ghost use Rattle.octets_tool.specs.Requests.{OrRefused};
 
 use crate::arguments::Task;
 use crate::output::Output;
@@ -17,7 +18,7 @@ mod script_command;
 #[tactic(auto, unfolding(octets::specs::Encodes::cased))]
 pub fn output(alloc: Global, task: Task, input: &[u8]) -> Result<Output, AllocError>
     requires { length input.now ≤ most_input }
-    ensures { IfOk result (λ output. IsOutput task input.now (shown output)) }
+    ensures { OrRefused result (λ output. IsOutput task input.now (shown output)) }
 {
     match task {
         Task::Packet => packet_command::output(alloc, input),

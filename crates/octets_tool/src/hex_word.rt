@@ -1,16 +1,18 @@
 //! Words that spell bytes in hexadecimal.
 
 ghost use Rattle.std.specs.Prelude.{◌≡◌, ◌↔◌, ℕ, List, [], ◌∷◌, ◌<◌};
-ghost use Rattle.std.specs.Prelude.{IfOk, Some, option_map, vec_items};
+ghost use Rattle.std.specs.Prelude.{Some, option_map, vec_items};
 ghost use Rattle.octets.specs.Bytes.{AreBytes};
 ghost use Rattle.octets_tool.specs.Lines.{hex, hex_digit, byte_digits};
+ghost use Rattle.octets_tool.specs.Requests.{OrRefused};
 
+use crate::memory::{push, reserved};
 use std::alloc::{AllocError, Global};
 
 /// Returns the bytes that a word spells, with two lower-case digits for each byte, or `-` for none:
 /// without it, no bytes would be an empty word, which no reader of the line sees.
 pub fn bytes_of(alloc: Global, word: &[u8]) -> Result<Option<Vec<u8>>, AllocError>
-    ensures { IfOk result (λ found. (b : List ℕ)
+    ensures { OrRefused result (λ found. (b : List ℕ)
         → (option_map vec_items found ≡ Some b) ↔ (AreBytes b × (word.now ≡ hex b))) }
 {
     if word == b"-".as_slice() {
@@ -19,13 +21,13 @@ pub fn bytes_of(alloc: Global, word: &[u8]) -> Result<Option<Vec<u8>>, AllocErro
     if word.is_empty() {
         return Ok(None);
     }
-    let mut bytes = Vec::with_capacity(alloc, word.len() / 2)?;
+    let mut bytes = reserved(alloc, word.len() / 2)?;
     let mut rest = word;
     while let [high, low, after @ ..] = rest {
         let Some(byte) = byte_value(*high, *low) else {
             return Ok(None);
         };
-        bytes.push(byte)?;
+        push(&mut bytes, byte)?;
         rest = after;
     }
     if !rest.is_empty() {

@@ -11,6 +11,7 @@ mod fault;
 mod hex;
 mod hex_word;
 mod laws;
+mod memory;
 mod output;
 mod packet;
 mod reading;

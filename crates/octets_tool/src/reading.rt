@@ -3,8 +3,10 @@ ghost use Rattle.std.specs.Prelude.{◌≡◌, ◌≢◌, ◌<◌, ◌≤◌, le
 ghost use Rattle.std.specs.Io.KnownBytes.{Consumes, IsAtEnd};
 ghost use Rattle.octets_tool.specs.Limits.{most_input};
 ghost use Rattle.octets_tool.specs.Streams.{ReadsMoreThan};
+ghost use Rattle.octets.specs.Requests.{WasRefused};
 
 use crate::fault::RunFault;
+use crate::memory::zeros;
 use std::alloc::Global;
 use std::io::Read;
 
@@ -25,9 +27,10 @@ pub fn read_whole<R: Read>(alloc: Global, reader: &mut R) -> Result<Vec<u8>, Run
     ensures too_long { result ≡ Err RunFault.TooLong
         → ReadsMoreThan most_input (R.remaining reader.old) (R.remaining reader.new) }
     ensures reading_alone { IfErr result (λ fault. fault ≢ RunFault.Write) }
+    ensures memory { result ≡ Err RunFault.Memory → WasRefused }
 {
     // One more byte than an input may have, so that a full buffer means that the input is too long.
-    let mut buffer = vec![in alloc; 0u8; MOST_INPUT + 1]?;
+    let mut buffer = zeros(alloc, MOST_INPUT + 1)?;
     let filled = fill(reader, &mut buffer)?;
     buffer.truncate(filled);
     Ok(buffer)
@@ -44,6 +47,7 @@ fn fill<R: Read>(reader: &mut R, buffer: &mut [u8]) -> Result<usize, RunFault>
     ensures too_long { result ≡ Err RunFault.TooLong
         → Consumes (R.remaining reader.old) (R.remaining reader.new) buffer.new }
     ensures reading_alone { IfErr result (λ fault. fault ≢ RunFault.Write) }
+    ensures no_memory { IfErr result (λ fault. fault ≢ RunFault.Memory) }
 {
     let mut filled = 0;
     for _ in 0..MOST_READS {

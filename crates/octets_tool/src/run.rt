@@ -2,6 +2,7 @@
 
 ghost use Rattle.std.specs.Prelude.{◌≡◌, ◌≢◌, ◌≤◌, length, IfOk, IfErr, IfSome, OnOk};
 ghost use Rattle.std.specs.Io.KnownBytes.{Consumes, IsAtEnd};
+ghost use Rattle.octets.specs.Requests.{WasRefused};
 ghost use Rattle.octets_tool.specs.Limits.{most_input};
 ghost use Rattle.octets_tool.specs.Streams.{ReadsMoreThan, WritesOutput};
 
@@ -39,6 +40,9 @@ pub fn run<R: Read, W: Write>(
     ensures unwritten { IfErr result (λ fault. fault ≢ RunFault.Write → writer.new ≡ writer.old) }
     ensures too_long { result ≡ Err RunFault.TooLong
         → ReadsMoreThan most_input (R.remaining reader.old) (R.remaining reader.new) }
+
+    // An allocation is reported to have failed only if a request for memory was refused.
+    ensures memory { result ≡ Err RunFault.Memory → WasRefused }
 {
     let input = read_whole(alloc, reader)?;
     let output = commands::output(alloc, task, &input)?;

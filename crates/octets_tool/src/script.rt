@@ -2,8 +2,10 @@
 ghost use Rattle.std.specs.Prelude.{◌≡◌, ◌↔◌, ℕ};
 ghost use Rattle.octets_tool.specs.Scripts.{ScriptText, IsScript, IsFaultLine};
 ghost use Rattle.octets_tool.specs.Scripts.{unended, shown, UnlessMemory};
+ghost use Rattle.octets_tool.specs.Requests.{OnMemory};
 
 use crate::cut::cut;
+use crate::memory::push;
 use octets_script::Command;
 use std::alloc::{AllocError, Global};
 
@@ -51,6 +53,7 @@ pub fn parse_script(alloc: Global, input: &[u8]) -> Result<Script, ScriptFault>
         → (shown result ≡ Ok s) ↔ IsScript input.now s) }
     ensures line { UnlessMemory result ((n : ℕ)
         → (shown result ≡ Err (ScriptFault.Line n)) ↔ IsFaultLine input.now n) }
+    ensures memory { OnMemory result }
 {
     let (line, mut rest) = cut(unended(input), b'\n');
     let Some(buffer) = read_buffer(alloc, line)? else {
@@ -67,7 +70,7 @@ pub fn parse_script(alloc: Global, input: &[u8]) -> Result<Script, ScriptFault>
         let Some(command) = read_command(alloc, line)? else {
             return Err(ScriptFault::Line(number));
         };
-        if commands.push(command).is_err() {
+        if push(&mut commands, command).is_err() {
             return Err(ScriptFault::Memory);
         }
         rest = after;

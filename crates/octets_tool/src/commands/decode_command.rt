@@ -1,6 +1,6 @@
 //! `decode LIMIT` prints the value of which the input is the Huffman encoding.
-ghost use Rattle.std.specs.Prelude.{IfOk};
 ghost use Rattle.octets_tool.specs.Output.{IsDecodeOutput, shown};
+ghost use Rattle.octets_tool.specs.Requests.{OrRefused};
 
 use crate::hex::Hex;
 use crate::output::Output;
@@ -9,7 +9,7 @@ use std::alloc::{AllocError, Global};
 
 /// Returns the whole output for an input. It fails only if an allocation fails.
 pub fn output(alloc: Global, limit: usize, text: &[u8]) -> Result<Output, AllocError>
-    ensures { IfOk result (λ output. IsDecodeOutput limit text.now (shown output)) }
+    ensures { OrRefused result (λ output. IsDecodeOutput limit text.now (shown output)) }
 {
     let mut cursor = Octets::with_slice(text);
     match cursor.get_huffman_decoded_with_max_length(alloc, limit) {

@@ -1,11 +1,13 @@
 //! `encode` and `encode-lower` print the Huffman encoding of the input.
 
-ghost use Rattle.std.specs.Prelude.{◌≡◌, ◌≤◌, ◌++◌, length, drop, IfOk};
+ghost use Rattle.std.specs.Prelude.{◌≡◌, ◌≤◌, ◌++◌, length, drop};
 ghost use Rattle.octets.specs.Encodes.{text_of};
 ghost use Rattle.octets_tool.specs.Limits.{most_input};
 ghost use Rattle.octets_tool.specs.Output.{encode_output, shown};
+ghost use Rattle.octets_tool.specs.Requests.{OrRefused};
 
 use crate::hex::Hex;
+use crate::memory::zeros;
 use crate::output::Output;
 use octets::{OctetsMut, huffman_encoding_len};
 use std::alloc::{AllocError, Global};
@@ -14,7 +16,7 @@ use std::alloc::{AllocError, Global};
 /// allocation fails.
 pub fn output<const LOWER_CASE: bool>(alloc: Global, value: &[u8]) -> Result<Output, AllocError>
     requires { length value.now ≤ most_input }
-    ensures { IfOk result (λ output.
+    ensures { OrRefused result (λ output.
         shown output ≡ encode_output (text_of LOWER_CASE value.now) value.now) }
 {
     let encoded = encoding_of::<LOWER_CASE>(alloc, value)?;
@@ -30,9 +32,9 @@ pub fn output<const LOWER_CASE: bool>(alloc: Global, value: &[u8]) -> Result<Out
 #[tactic(auto, using(crate::proofs::Texts::texts, octets_code::proofs::TextLemmas::each_byte))]
 fn encoding_of<const LOWER_CASE: bool>(alloc: Global, value: &[u8]) -> Result<Vec<u8>, AllocError>
     requires { length value.now ≤ most_input }
-    ensures { IfOk result (λ text. text.items ≡ text_of LOWER_CASE value.now) }
+    ensures { OrRefused result (λ text. text.items ≡ text_of LOWER_CASE value.now) }
 {
-    let mut buffer = vec![in alloc; 0u8; 4 * value.len()]?;
+    let mut buffer = zeros(alloc, 4 * value.len())?;
     let len = put_text::<LOWER_CASE>(&mut buffer, value);
     buffer.truncate(len);
     Ok(buffer)

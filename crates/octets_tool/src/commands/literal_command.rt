@@ -2,12 +2,14 @@
 //! is written for its value.
 #![tactic(auto, using(crate::proofs::Texts::literals))]
 
-ghost use Rattle.std.specs.Prelude.{◌≡◌, ◌≤◌, ◌++◌, length, drop, vec_len, IfOk};
+ghost use Rattle.std.specs.Prelude.{◌≡◌, ◌≤◌, ◌++◌, length, drop, vec_len};
 ghost use Rattle.octets_literal.specs.Literals.{canon};
 ghost use Rattle.octets_tool.specs.Limits.{most_input};
 ghost use Rattle.octets_tool.specs.Output.{IsLiteralOutput, literal_output, shown};
+ghost use Rattle.octets_tool.specs.Requests.{OrRefused};
 
 use crate::hex::Hex;
+use crate::memory::zeros;
 use crate::output::Output;
 use octets::{Octets, OctetsMut};
 use octets_literal::{LiteralError, get_string, write_string};
@@ -16,7 +18,7 @@ use std::alloc::{AllocError, Global};
 /// Returns the whole output for an input. It fails only if an allocation fails.
 pub fn output(alloc: Global, limit: usize, input: &[u8]) -> Result<Output, AllocError>
     requires { length input.now ≤ most_input }
-    ensures { IfOk result (λ output. IsLiteralOutput limit input.now (shown output)) }
+    ensures { OrRefused result (λ output. IsLiteralOutput limit input.now (shown output)) }
 {
     let mut cursor = Octets::with_slice(input);
     let text = match get_string(alloc, &mut cursor, limit) {
@@ -32,7 +34,7 @@ pub fn output(alloc: Global, limit: usize, input: &[u8]) -> Result<Output, Alloc
 /// Returns the output for a value, with the number of bytes after its literal.
 fn answered_literal(alloc: Global, value: Vec<u8>, rest: usize) -> Result<Output, AllocError>
     requires { vec_len value ≤ 4294967295 }
-    ensures { IfOk result (λ output. shown output ≡ literal_output value.items rest) }
+    ensures { OrRefused result (λ output. shown output ≡ literal_output value.items rest) }
 {
     let literal = literal_of(alloc, &value)?;
     let (value, literal) = (Hex(&value), Hex(&literal));
@@ -44,9 +46,9 @@ fn answered_literal(alloc: Global, value: Vec<u8>, rest: usize) -> Result<Output
 /// are at most as long as the value.
 fn literal_of(alloc: Global, value: &[u8]) -> Result<Vec<u8>, AllocError>
     requires { length value.now ≤ 4294967295 }
-    ensures { IfOk result (λ literal. literal.items ≡ canon value.now) }
+    ensures { OrRefused result (λ literal. literal.items ≡ canon value.now) }
 {
-    let mut buffer = vec![in alloc; 0u8; value.len() + 6]?;
+    let mut buffer = zeros(alloc, value.len() + 6)?;
     let len = put_literal(&mut buffer, value);
     buffer.truncate(len);
     Ok(buffer)

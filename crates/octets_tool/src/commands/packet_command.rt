@@ -3,6 +3,7 @@ ghost use Rattle.std.specs.Prelude.{◌≡◌, IfOk};
 ghost use Rattle.octets.specs.Cursor.{position};
 ghost use Rattle.octets_tool.specs.Output.{packet_output, shown, IsPacketOutput};
 ghost use Rattle.octets_tool.specs.Packets.{shown as fields_or_fault, OneByte, ShortestVarint};
+ghost use Rattle.octets_tool.specs.Requests.{OrRefused};
 
 use crate::hex::Hex;
 use crate::output::Output;
@@ -11,14 +12,14 @@ use std::alloc::{AllocError, Global};
 
 /// Returns the whole output of `packet` for an input. It fails only if an allocation fails.
 pub fn output(alloc: Global, input: &[u8]) -> Result<Output, AllocError>
-    ensures { IfOk result (λ output. IsPacketOutput OneByte input.now (shown output)) }
+    ensures { OrRefused result (λ output. IsPacketOutput OneByte input.now (shown output)) }
 {
     line_of(alloc, read_packet(input))
 }
 
 /// Returns the whole output of `packet2` for an input. It fails only if an allocation fails.
 pub fn output2(alloc: Global, input: &[u8]) -> Result<Output, AllocError>
-    ensures { IfOk result (λ output. IsPacketOutput ShortestVarint input.now (shown output)) }
+    ensures { OrRefused result (λ output. IsPacketOutput ShortestVarint input.now (shown output)) }
 {
     line_of(alloc, read_packet2(input))
 }
@@ -26,7 +27,8 @@ pub fn output2(alloc: Global, input: &[u8]) -> Result<Output, AllocError>
 /// Returns the line for the result of reading a packet.
 fn line_of(alloc: Global, packet: Result<Packet<'_>, PacketFault>) -> Result<Output, AllocError>
     requires { IfOk packet (λ p. position p.payload ≡ 0) }
-    ensures { IfOk result (λ output. shown output ≡ packet_output (fields_or_fault packet.entry)) }
+    ensures { OrRefused result (λ output.
+        shown output ≡ packet_output (fields_or_fault packet.entry)) }
 {
     match packet {
         Ok(packet) => {

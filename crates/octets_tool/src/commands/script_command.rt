@@ -1,10 +1,11 @@
 //! `script` makes calls of a cursor over a buffer, and prints a line for each reply.
-ghost use Rattle.std.specs.Prelude.{◌≡◌, ℕ, List, map, flat_map, IfOk};
+ghost use Rattle.std.specs.Prelude.{◌≡◌, ℕ, List, map, flat_map};
 ghost use Rattle.std.specs.String.{string_bytes};
 ghost use Rattle.octets_script.specs.Calls.{Answer, call_of, answer_of};
 ghost use Rattle.octets_script.specs.Plays.{Plays};
 ghost use Rattle.octets_tool.specs.Output.{IsScriptOutput, replies_output, shown};
 ghost use Rattle.octets_tool.specs.Replies.{ended_line};
+ghost use Rattle.octets_tool.specs.Requests.{OrRefused};
 
 use crate::hex::Hex;
 use crate::output::Output;
@@ -16,7 +17,7 @@ use std::alloc::{AllocError, Global};
 
 /// Returns the whole output for the text of a script. It fails only if an allocation fails.
 pub fn output(alloc: Global, input: &[u8]) -> Result<Output, AllocError>
-    ensures { IfOk result (λ output. IsScriptOutput input.now (shown output)) }
+    ensures { OrRefused result (λ output. IsScriptOutput input.now (shown output)) }
 {
     match parse_script(alloc, input) {
         Ok(script) => script_output(alloc, script.buffer, &script.commands),
@@ -34,7 +35,7 @@ fn script_output(
     mut buffer: Vec<u8>,
     commands: &[Command],
 ) -> Result<Output, AllocError>
-    ensures { IfOk result (λ output. (rs : List Answer) × (l : List ℕ) × (p : ℕ)
+    ensures { OrRefused result (λ output. (rs : List Answer) × (l : List ℕ) × (p : ℕ)
         × Plays (map call_of commands.now) buffer.items 0 rs l p
         × (shown output ≡ replies_output rs l p)) }
 {
@@ -53,7 +54,7 @@ fn play(
     buffer: &mut [u8],
     commands: &[Command],
 ) -> Result<(Vec<Reply>, usize), AllocError>
-    ensures { IfOk result (λ end. Plays (map call_of commands.now) buffer.old 0
+    ensures { OrRefused result (λ end. Plays (map call_of commands.now) buffer.old 0
         (map answer_of end.0.items) buffer.new end.1) }
 {
     let mut cursor = OctetsMut::with_slice(buffer);
@@ -68,7 +69,7 @@ fn play(
 
 /// Returns a line for each reply.
 fn lines_of(alloc: Global, replies: &[Reply]) -> Result<String, AllocError>
-    ensures { IfOk result (λ lines. string_bytes lines
+    ensures { OrRefused result (λ lines. string_bytes lines
         ≡ flat_map ended_line (map answer_of replies.now)) }
 {
     let mut lines = String::new(alloc);

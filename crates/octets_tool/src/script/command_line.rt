@@ -1,11 +1,12 @@
 //! Reads of one line of a script.
 #![tactic(auto, using(crate::proofs::LineWords::unread))]
 
-ghost use Rattle.std.specs.Prelude.{◌≡◌, ◌↔◌, ℕ, List, [], ◌∷◌, Some, IfOk, option_map, vec_items};
+ghost use Rattle.std.specs.Prelude.{◌≡◌, ◌↔◌, ℕ, List, [], ◌∷◌, Some, option_map, vec_items};
 ghost use Rattle.octets_script.specs.Calls.{Call, call_of};
 ghost use Rattle.octets_tool.specs.Commands.{IsLineOf};
 ghost use Rattle.octets_tool.specs.Names.{AreWordsOf, AreWordsBy, number_word, bytes_word};
 ghost use Rattle.octets_tool.specs.Scripts.{IsBufferLine};
+ghost use Rattle.octets_tool.specs.Requests.{OrRefused};
 
 use crate::cut::cut;
 use crate::decimal::number_of;
@@ -22,7 +23,7 @@ const MOST_BUFFER: usize = 4_096;
 
 /// Returns the buffer that the first line of a script spells, if it spells one.
 pub fn read_buffer(alloc: Global, line: &[u8]) -> Result<Option<Vec<u8>>, AllocError>
-    ensures { IfOk result (λ found. (b : List ℕ)
+    ensures { OrRefused result (λ found. (b : List ℕ)
         → (option_map vec_items found ≡ Some b) ↔ IsBufferLine line.now b) }
 {
     let Some(word) = line.strip_prefix(b"buffer ".as_slice()) else {
@@ -39,7 +40,7 @@ pub fn read_buffer(alloc: Global, line: &[u8]) -> Result<Option<Vec<u8>>, AllocE
 
 /// Returns the command that a line spells, if it spells one.
 pub fn read_command(alloc: Global, line: &[u8]) -> Result<Option<Command>, AllocError>
-    ensures { IfOk result (λ found. (c : Call)
+    ensures { OrRefused result (λ found. (c : Call)
         → (option_map call_of found ≡ Some c) ↔ IsLineOf line.now c) }
 {
     let (name, rest) = cut(line, b' ');
@@ -67,7 +68,7 @@ pub fn read_command(alloc: Global, line: &[u8]) -> Result<Option<Command>, Alloc
 
 /// Returns the command of a name and one more word, which is a number or bytes.
 fn with_one_word(alloc: Global, name: &str, word: &[u8]) -> Result<Option<Command>, AllocError>
-    ensures { IfOk result (λ found. (c : Call)
+    ensures { OrRefused result (λ found. (c : Call)
         → (option_map call_of found ≡ Some c) ↔ AreWordsOf (name.now ∷ word.now ∷ []) c) }
 {
     match with_number_word(name, word) {
@@ -86,7 +87,7 @@ fn with_number_word(name: &str, word: &[u8]) -> Option<Command>
 
 /// Returns the command of a name and a word that is bytes.
 fn with_bytes_word(alloc: Global, name: &str, word: &[u8]) -> Result<Option<Command>, AllocError>
-    ensures { IfOk result (λ found. (c : Call) → (option_map call_of found ≡ Some c)
+    ensures { OrRefused result (λ found. (c : Call) → (option_map call_of found ≡ Some c)
         ↔ AreWordsBy (bytes_word ∷ []) (name.now ∷ word.now ∷ []) c) }
 {
     match bytes_of(alloc, word)? {
@@ -102,7 +103,7 @@ fn with_two_words(
     first: &[u8],
     second: &[u8],
 ) -> Result<Option<Command>, AllocError>
-    ensures { IfOk result (λ found. (c : Call) → (option_map call_of found ≡ Some c)
+    ensures { OrRefused result (λ found. (c : Call) → (option_map call_of found ≡ Some c)
         ↔ AreWordsBy (number_word ∷ bytes_word ∷ [])
         (name.now ∷ first.now ∷ second.now ∷ []) c) }
 {
@@ -123,7 +124,7 @@ fn with_three_words(
     second: &[u8],
     third: &[u8],
 ) -> Result<Option<Command>, AllocError>
-    ensures { IfOk result (λ found. (c : Call) → (option_map call_of found ≡ Some c)
+    ensures { OrRefused result (λ found. (c : Call) → (option_map call_of found ≡ Some c)
         ↔ AreWordsOf (name.now ∷ first.now ∷ second.now ∷ third.now ∷ []) c) }
 {
     if name == "split_at" {
@@ -141,7 +142,7 @@ fn with_parts(
     left: &[u8],
     right: &[u8],
 ) -> Result<Option<Command>, AllocError>
-    ensures { IfOk result (λ found. (c : Call) → (option_map call_of found ≡ Some c)
+    ensures { OrRefused result (λ found. (c : Call) → (option_map call_of found ≡ Some c)
         ↔ AreWordsBy (number_word ∷ bytes_word ∷ bytes_word ∷ [])
         (name.now ∷ place.now ∷ left.now ∷ right.now ∷ []) c) }
 {
@@ -165,7 +166,7 @@ fn with_width(
     width: &[u8],
     bytes: &[u8],
 ) -> Result<Option<Command>, AllocError>
-    ensures { IfOk result (λ found. (c : Call) → (option_map call_of found ≡ Some c)
+    ensures { OrRefused result (λ found. (c : Call) → (option_map call_of found ≡ Some c)
         ↔ AreWordsBy (number_word ∷ number_word ∷ bytes_word ∷ [])
         (name.now ∷ value.now ∷ width.now ∷ bytes.now ∷ []) c) }
 {

@@ -61,7 +61,7 @@ pub loop-rest-preserved : goal.loop-rest-preserved
 loop-rest-preserved c =
     let commands = c.loop-rest.commands.items in
     let d = c.in-Some-2.command in
-    let pushed : c.push.new.self.items ≡ commands ++ d ∷ [] = search rules in
+    let pushed : c.push.new.list.items ≡ commands ++ d ∷ [] = search rules in
     let l = c.cut-in-Some-rest.result.0.now in
     let parts = parts_of 10 c.cut-in-Some-rest.result.1 in
     let ls = c.loop-rest.invariant.0 in

@@ -1,9 +1,10 @@
 -- A decode that fails has passed as many bytes as the offset says.
-use Rattle.std.proofs.Common.{◌≡◌, ◌++◌, codes, ap, subst, ◌∙◌, inr, arith}
+use Rattle.std.proofs.Common.{◌≡◌, ◌++◌, codes, ap, subst, ◌∙◌, inr, arith, rules}
 use Rattle.std.specs.Fmt.{decimal}
 use Rattle.octets_code.specs.Answers.{IsRefusal}
 use Rattle.octets_tool.proofs.Fields.{whole_rest}
 use Rattle.octets_tool.proofs.OutputLaws.{refused_line}
+use Rattle.octets.specs.Requests.{may_refuse}
 use Rattle.octets_tool.proofs.commands.decode_command.output.Goals as goal
 
 pub returns-in_ok-text-in-Err-Short : goal.returns-in_ok-text-in-Err-Short
@@ -17,3 +18,10 @@ returns-in_ok-text-in-Err-Short c =
     let line = refused_line (codes "refused at ") _ n (c.in_ok-text-in-Err-Short.ensures.ok
     ∙ ap (λ k. codes "refused at " ++ (decimal k ++ codes "\n")) offset) in
     inr (n, subst (λ t. IsRefusal t c.args.limit n) whole (short.ends.refused.1), grind (arith, line))
+
+-- the line is formatted in memory for which this function asks
+pub returns-in_err-text-in-Ok : goal.returns-in_err-text-in-Ok
+returns-in_err-text-in-Ok c = search (rules, may_refuse)
+
+pub returns-in_err-text-in-Err-Short : goal.returns-in_err-text-in-Err-Short
+returns-in_err-text-in-Err-Short c = search (rules, may_refuse)

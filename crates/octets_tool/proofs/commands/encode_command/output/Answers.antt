@@ -1,11 +1,12 @@
 -- The line by its pieces: the length is in it if the text isn't longer than the value.
-use Rattle.std.proofs.Common.{◌≡◌, ◌↔◌, ℕ, ◌≤◌, ◌++◌, nat_le, true, false, List, length, codes, refl, ◌∙◌}
+use Rattle.std.proofs.Common.{◌≡◌, ◌↔◌, ℕ, ◌≤◌, ◌++◌, nat_le, true, false, List, length, codes, refl, ◌∙◌, rules}
 use Rattle.std.proofs.Common.{append_assoc, arith}
 use Rattle.std.specs.Fmt.{decimal}
 use Rattle.std.proofs.lemmas.Bool.{le-leb, lt-leb}
 use Rattle.octets_tool.specs.Lines.{hex}
 use Rattle.octets_tool.specs.Output.{Output, answered, encode_output}
 use Rattle.octets_tool.specs.declared.output.Status.TheVariants.{Answered}
+use Rattle.octets.specs.Requests.{may_refuse}
 use Rattle.octets_tool.proofs.commands.encode_command.output.Goals as goal
 use Rattle.octets_tool.proofs.commands.encode_command.output.Goals.{in-Ok+in_ok-text-in-Ok, in-Err+in_ok-text-in-Err}
 
@@ -38,3 +39,10 @@ returns g c =
       | in-Err+in_ok-text-in-Err w ↦
           rw w.text-is (longer _ _ _ _ same w.in-Err.ensures.shorter w.in_ok-text-in-Err.ensures.ok)
     ]
+
+-- the line is formatted in memory for which this function asks
+pub returns-in_err-text-in-Ok : goal.returns-in_err-text-in-Ok
+returns-in_err-text-in-Ok g c = search (rules, may_refuse)
+
+pub returns-in_err-text-in-Err : goal.returns-in_err-text-in-Err
+returns-in_err-text-in-Err g c = search (rules, may_refuse)

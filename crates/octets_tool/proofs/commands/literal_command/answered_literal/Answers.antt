@@ -1,10 +1,11 @@
 -- The line by its pieces.
-use Rattle.std.proofs.Common.{◌≡◌, ℕ, List, ◌++◌, codes, ◌∙◌, append_assoc}
+use Rattle.std.proofs.Common.{◌≡◌, ℕ, List, ◌++◌, codes, ◌∙◌, append_assoc, rules}
 use Rattle.std.specs.Fmt.{decimal}
 use Rattle.octets_literal.specs.Literals.{canon}
 use Rattle.octets_tool.specs.Lines.{hex}
 use Rattle.octets_tool.specs.Output.{Output, answered, literal_output}
 use Rattle.octets_tool.specs.declared.output.Status.TheVariants.{Answered}
+use Rattle.octets.specs.Requests.{may_refuse}
 use Rattle.octets_tool.proofs.commands.literal_command.answered_literal.Goals as goal
 
 pieces : (a n b text : List ℕ)
@@ -24,3 +25,7 @@ returns c =
     c.answered.ensures
     ∙ told _ _ _ _ _ _ c.deref-2.ensures.value (c.deref-3.ensures.value ∙ c.in_ok-literal.ensures)
     c.deref.ensures.value c.in_ok-text.ensures.ok
+
+-- the line is formatted in memory for which this function asks
+pub returns-in_err-text : goal.returns-in_err-text
+returns-in_err-text c = search (rules, may_refuse)

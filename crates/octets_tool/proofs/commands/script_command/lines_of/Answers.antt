@@ -1,12 +1,14 @@
 -- Each reply adds its line.
 use Rattle.std.proofs.Common.{◌≡◌, ℕ, ◌+◌, ◌<◌, List, [], ◌∷◌, ◌++◌, length, take, map, flat_map, get_or, sym, ap, ◌∙◌}
-use Rattle.std.proofs.Common.{arith}
+use Rattle.std.proofs.Common.{arith, rules}
 use Rattle.std.proofs.Math.Seq.{take-suc}
 use Rattle.std.proofs.lemmas.List.{map_push, take_all}
+use Rattle.std.proofs.lemmas.Result.{err_from_is_err_and}
 use Rattle.octets_script.specs.Calls.{answer_of}
 use Rattle.octets_script.specs.declared.reply.Reply.{Reply}
 use Rattle.octets_tool.proofs.HexWords.{flat_more}
 use Rattle.octets_tool.specs.Replies.{ended_line}
+use Rattle.octets.specs.Requests.{may_refuse}
 use Rattle.octets_tool.proofs.commands.script_command.lines_of.Goals as goal
 
 more_lines : (rs : List Reply) (i : ℕ) (r : Reply) (text line : List ℕ) → i < length rs → r ≡ get_or rs i r
@@ -29,3 +31,11 @@ pub returns : goal.returns
 returns c =
     c.loop-reply.invariant
     ∙ ap (λ (l : List Reply). flat_map ended_line (map answer_of l)) (take_all _ _ c.loop-reply-test.false)
+
+-- the line is formatted in memory for which this function asks
+pub returns-in_err-line : goal.returns-in_err-line
+returns-in_err-line c =
+    let p = err_from_is_err_and c.from_residual.result c.from_residual.ensures.1 in rw p.1 (0, may_refuse 0)
+
+pub returns-in_err-push_str : goal.returns-in_err-push_str
+returns-in_err-push_str c = search (rules, may_refuse)
