@@ -6,16 +6,15 @@ use crate::error::{BufferTooShortError, Result};
 
 /// Returns the `N` bytes from the position `from` on.
 #[inline(always)]
-pub(crate) fn chunk<const N: usize>(bytes: &[u8], from: usize) -> Result<&[u8; N]>
+fn chunk<const N: usize>(bytes: &[u8], from: usize) -> Result<&[u8; N]>
     requires within { from ≤ length bytes.now }
     requires few { N ≤ 8 }
     ensures fits { IsOk result ↔ (N ≤ length (drop from bytes.now)) }
     ensures value { IfOk result (λ c. c.now ≡ take N (drop from bytes.now)) }
 {
-    // `from` is never past the end, but rustc can't know that: a range that begins with it would
-    // be compared at both ends.
-    match bytes.get(..from + N) {
-        Some(front) => match front.last_chunk::<N>() {
+    // `from` is never past the end, but rustc can't know that: an index would panic there.
+    match bytes.get(from..from + N) {
+        Some(part) => match part.first_chunk::<N>() {
             Some(found) => Ok(found),
             None => Err(BufferTooShortError),
         },

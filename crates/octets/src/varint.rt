@@ -6,8 +6,8 @@ ghost use Rattle.octets.specs.Varints.{BeginsVarint, BeginsOverlong, HasNoVarint
 ghost use Rattle.octets.specs.Varints.{HoldsVarint, IsVarint, IsWidth, shortest, varint};
 ghost use Rattle.octets.specs.declared.error.VarintError.TheVariants.{Short, Overlong};
 
-use crate::error::{Result, VarintError};
-use crate::number::{chunk, read_u16, read_u32, read_u64};
+use crate::error::{BufferTooShortError, Result, VarintError};
+use crate::number::{read_u16, read_u32, read_u64};
 
 /// The greatest value of a varint: 2 to the power 62, less one.
 pub const MAX_VAR_INT: u64 = 4_611_686_018_427_387_903;
@@ -72,6 +72,23 @@ pub const fn varint_parse_len(first: u8) -> usize
     1 << (first >> 6)
 }
 
+/// Returns the byte at the position `from`. `read_u8` returns the same, but in a loop LLVM compares
+/// once more where that is followed by a longer read.
+#[inline(always)]
+fn first_byte(bytes: &[u8], from: usize) -> Result<u8>
+    requires { from ≤ length bytes.now }
+    ensures fits { IsOk result ↔ (1 ≤ length (drop from bytes.now)) }
+    ensures spells { IfOk result (λ n. drop from bytes.now ≡ n ∷ drop 1 (drop from bytes.now)) }
+{
+    match bytes.get(..from + 1) {
+        Some(front) => match front.last() {
+            Some(byte) => Ok(*byte),
+            None => Err(BufferTooShortError),
+        },
+        None => Err(BufferTooShortError),
+    }
+}
+
 /// Returns the width and the value of the varint at the position `from`.
 #[inline(always)]
 #[tactic(auto, unfolding(crate::specs::Varints::BeginsVarint))]
@@ -85,7 +102,7 @@ pub(crate) fn read_varint(bytes: &[u8], from: usize) -> Result<(usize, u64)>
     ensures within { IfOk result (λ r. r.0 ≤ length (drop from bytes.now)) }
     ensures refused { OnErr result (HasNoVarint (drop from bytes.now)) }
 {
-    let [first] = *chunk::<1>(bytes, from)?;
+    let first = first_byte(bytes, from)?;
     if first < 64 {
         return Ok((1, u64::from(first)));
     }

@@ -11,11 +11,10 @@ use crate::error::{BufferTooShortError, Result};
 /// - `from ≤ length bytes.now`
 /// - `N ≤ 8`
 #[inline(always)]
-pub(crate) fn chunk<const N: usize>(bytes: &[u8], from: usize) -> Result<&[u8; N]> {
-    // `from` is never past the end, but rustc can't know that: a range that begins with it would
-    // be compared at both ends.
-    match bytes.get(..from + N) {
-        Some(front) => match front.last_chunk::<N>() {
+fn chunk<const N: usize>(bytes: &[u8], from: usize) -> Result<&[u8; N]> {
+    // `from` is never past the end, but rustc can't know that: an index would panic there.
+    match bytes.get(from..from + N) {
+        Some(part) => match part.first_chunk::<N>() {
             Some(found) => Ok(found),
             None => Err(BufferTooShortError),
         },

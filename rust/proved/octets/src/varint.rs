@@ -2,8 +2,8 @@
 //! Variable-length integers (RFC 9000 section 16).
 use rattle_std::{self as std, prelude::*};
 
-use crate::error::{Result, VarintError};
-use crate::number::{chunk, read_u16, read_u32, read_u64};
+use crate::error::{BufferTooShortError, Result, VarintError};
+use crate::number::{read_u16, read_u32, read_u64};
 
 /// The greatest value of a varint: 2 to the power 62, less one.
 pub const MAX_VAR_INT: u64 = 4_611_686_018_427_387_903;
@@ -68,6 +68,23 @@ pub const fn varint_parse_len(first: u8) -> usize {
     1 << (first >> 6)
 }
 
+/// Returns the byte at the position `from`. `read_u8` returns the same, but in a loop LLVM compares
+/// once more where that is followed by a longer read.
+///
+/// # Requires
+///
+/// - `from ≤ length bytes.now`
+#[inline(always)]
+fn first_byte(bytes: &[u8], from: usize) -> Result<u8> {
+    match bytes.get(..from + 1) {
+        Some(front) => match front.last() {
+            Some(byte) => Ok(*byte),
+            None => Err(BufferTooShortError),
+        },
+        None => Err(BufferTooShortError),
+    }
+}
+
 /// Returns the width and the value of the varint at the position `from`.
 ///
 /// # Requires
@@ -75,7 +92,7 @@ pub const fn varint_parse_len(first: u8) -> usize {
 /// - `from ≤ length bytes.now`
 #[inline(always)]
 pub(crate) fn read_varint(bytes: &[u8], from: usize) -> Result<(usize, u64)> {
-    let [first] = *chunk::<1>(bytes, from)?;
+    let first = first_byte(bytes, from)?;
     if first < 64 {
         return Ok((1, u64::from(first)));
     }
