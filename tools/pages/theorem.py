@@ -16,13 +16,6 @@ import words
 TOP = Path(__file__).resolve().parents[2]
 LENT = "slice slice_last get_bytes_mut peek_bytes_mut split_at put_u8 put_u16 put_u24 put_u32 put_u64 put_varint"
 LENT += " put_varint_with_len put_marked as_mut lend lend_ahead lend_last lend_whole"
-# The calls of the model that lend nothing for writing.
-TOLD = (
-    "Cursor::{get_u8 get_u16 get_u24 get_u32 get_u64 peek_u8 get_varint get_varint_shortest rewind skip cap len off is_empty "
-    "to_vec buf put_bytes put_huffman_encoded get_bytes peek_bytes get_bytes_with_u8_length get_bytes_with_u16_length "
-    "get_bytes_with_varint_length} Octets::{buf get_bytes peek_bytes slice slice_last get_bytes_with_u8_length "
-    "get_bytes_with_u16_length get_bytes_with_varint_length get_huffman_decoded_with_max_length}"
-)
 # The parts of the sentence: the words, what to know before, and the clauses of public functions that state it.
 PARTS = (
     (
@@ -55,8 +48,7 @@ PARTS = (
         "[commands](../crates/octets_script/CALLING.md#which-calls-have-a-command), and the hand-written proofs of the "
         "functions with which it writes through a loan, `over_..` and `put_.._then_overwrite` of `octets_script`, name the call "
         "that lends. If an allocation fails, `run` stops early, and the same is true of the commands that it performed.",
-        [("octets", f"{kind}::{name}", "performs") for kind, names in re.findall(r"(\w+)::{(.*?)}", TOLD) for name in names.split()]
-        + [("octets_script", "run", "plays stopped some_left needs_room same_reference")],
+        [("octets", "*", "performs"), ("octets_script", "run", "plays stopped some_left memory same_reference")],
     ),
     (
         "each lent view changing its own range alone",
